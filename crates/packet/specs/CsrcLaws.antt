@@ -1,0 +1,48 @@
+-- Iarwennol. Laws of the CSRC list. Assume nothing.
+-- Used by the proof of same_words, and by the relation (context), where equal answers must mean equal lists.
+use Prim.Native.Nat.{ℕ, _+_, _<_, _≤_}
+use mathlib.Core.Path.{_≡_, refl, ap}
+use mathlib.Core.Bool.{Bool, true, false, _&&_, and-true, and-assoc}
+use mathlib.Core.List.{List, [], _∷_}
+use native.Mathlib.Numerals.{add-one}
+use borrow.Author.Tests.{eqb-true}
+use lib.Dec.{eqb}
+use lib.ListN.{length, getD, drop, drop-of-length-le}
+use lib.Seq.{drop-cons}
+use Rattle.packet.specs.Csrc.{same, sameList}
+use Rattle.packet.specs.declared.csrc.Csrc.{Csrc}
+
+and-l : (a b : Bool) → (a && b) ≡ true → a ≡ true
+and-l true b e = refl
+and-l false b e = e
+
+and-r : (a b : Bool) → (a && b) ≡ true → b ≡ true
+and-r true b e = e
+and-r false true e = refl
+and-r false false e = e
+
+---- same
+
+pub same-true : (a b : List ℕ) → same a b ≡ true → a ≡ b
+same-true [] [] e = refl
+same-true [] (y ∷ ys) e = cc
+same-true (x ∷ xs) [] e = cc
+same-true (x ∷ xs) (y ∷ ys) e = rw (eqb-true x y (and-l _ _ e), same-true xs ys (and-r (eqb x y) _ e))
+
+-- one place further, and past the last, for the loop that compares
+module _ (a b : List ℕ) (i : ℕ) (ok : Bool) where
+  pub same-drop : i < length a → i < length b
+      → (ok && same (drop i a) (drop i b)) ≡ (ok && eqb (getD a i 0) (getD b i 0) && same (drop (i + 1) a) (drop (i + 1) b))
+  same-drop h k = rw (add-one, drop-cons a i 0 h, drop-cons b i 0 k, and-assoc)
+
+  pub same-end : length a ≤ i → length b ≤ i → (ok && same (drop i a) (drop i b)) ≡ ok
+  same-end h k = rw (drop-of-length-le a h, drop-of-length-le b k, and-true)
+
+---- sameList
+
+pub sameList-true : (a b : Csrc) → sameList a b ≡ true → a ≡ b
+unfolding sameList
+sameList-true a b e = λ i. record {
+  count = eqb-true (a .count) (b .count) (and-l _ _ e) i;
+  words = same-true (a .words) (b .words) (and-r (eqb (a .count) (b .count)) _ e) i;
+}

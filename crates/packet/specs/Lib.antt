@@ -1,0 +1,3 @@
+pub mod Csrc
+pub mod CsrcLaws
+pub mod Sent

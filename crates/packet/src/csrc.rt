@@ -1,0 +1,40 @@
+ghost use mathlib.Core.Path.{_≡_};
+ghost use Rattle.packet.specs.Csrc.{same, sameList, noList};
+
+// The list of contributing sources.
+//
+// Words past the count are 0, so that two lists are equal exactly where count and all fifteen words are.
+pub struct Csrc {
+    pub count: u8,
+    pub words: [u32; 15],
+}
+
+// The list with nothing in it.
+pub fn no_list() -> Csrc
+    ensures { λ r. ⌜ r ≡ noList ⌝ }
+{
+    Csrc {
+        count: 0,
+        words: [0; 15],
+    }
+}
+
+// Whether two arrays of fifteen words are equal. (The language compares no arrays.)
+fn same_words(a: [u32; 15], b: [u32; 15]) -> bool
+    ensures { λ r. ⌜ r ≡ same a b ⌝ }
+{
+    let mut ok = true;
+    for i in 0..15 {
+        ok = ok & (a[i] == b[i]);
+    }
+    ok
+}
+
+// Whether two lists are equal, compared whole.
+pub fn same_list(a: Csrc, b: Csrc) -> bool
+    ensures { λ r. ⌜ r ≡ sameList a b ⌝ }
+{
+    let x = a.words;
+    let y = b.words;
+    (a.count == b.count) & same_words(x, y)
+}
