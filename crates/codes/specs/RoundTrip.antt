@@ -35,13 +35,11 @@ module _ (s : List ℕ) (at : ℕ) (l : List ℕ) (e : drop at s ≡ l) where
 ---- numbers
 
 module _ (s : List ℕ) (at v : ℕ) (rest : List ℕ) where
-  pub readByte-written : v < 2 ^ 8 → drop at s ≡ bigEndian 1 v ++ rest → readByte s at ≡ accepted v (at + 1)
+  pub readByte-written : drop at s ≡ v ∷ rest → readByte s at ≡ accepted v (at + 1)
   unfolding readByte
-  readByte-written h e =
+  readByte-written e =
       let n = left-length s at _ e (omega arith) in
-      let f = left-first s at _ e in
-      let q : byteAt s at ≡ v = omega arith in
-      rw q (fieldAt-there s at 1 v (omega arith))
+      rw (left-first s at _ e) (fieldAt-there s at 1 v (omega arith))
 
   pub readWord-written : v < 2 ^ 16 → drop at s ≡ bigEndian 2 v ++ rest → readWord s at ≡ accepted v (at + 2)
   unfolding readWord
