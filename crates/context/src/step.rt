@@ -25,8 +25,8 @@ pub struct Judged {
     pub deltas: Deltas,
 }
 
-// What this packet has to bring, unless it is a full header.
-pub struct Bring {
+// Whether each thing is due in this packet: changed now, or due still. A full header has them all anyway.
+pub struct DueNow {
     pub id: bool,
     pub sequence: bool,
     pub timestamp: bool,
