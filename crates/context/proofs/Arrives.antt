@@ -1,6 +1,6 @@
 -- Iarwennol. A packet that arrives: it is accepted and rebuilt, and the relation holds with nothing lost. Assume nothing.
 -- Used by robustness over lists of calls (rule 10).
-use Prim.Native.Nat.{ℕ, suc, _+_, _-_, _≤_, _<_}
+use Prim.Native.Nat.{ℕ, suc, _-_, _≤_, _<_}
 use mathlib.Core.Path.{_≡_, refl, sym, ap, _∙_}
 use mathlib.Core.Bool.{Bool, true, false, cond, not, false≢true, true≢false}
 use native.Mathlib.Omega.{arith}
@@ -12,17 +12,16 @@ use Rattle.packet.specs.declared.csrc.Csrc.{Csrc}
 use Rattle.packet.specs.declared.header.Header.{Header}
 use Rattle.packet.specs.declared.parts.Parts.{Parts}
 use Rattle.context.specs.Field.{nextSequence, offPattern, isDue, movedOn}
-use Rattle.context.specs.Compressor.{resetDeltas, sameConstants, started, begun, reset, judged, adoptsId, adoptsTimestamp, dueNow, anyDue, kindOf, listIf, partsOf, deltasAfter, moved, sentWith, sentFrom, stepOf}
+use Rattle.context.specs.Compressor.{resetDeltas, sameConstants, begun, reset, judged, adoptsId, adoptsTimestamp, dueNow, anyDue, kindOf, listIf, partsOf, deltasAfter, moved, sentWith, sentFrom, stepOf}
 use Rattle.context.specs.Decompressor.{filled, ipAfter, rtpAfter, deltasHeld, advanced, applied, rebuilt}
 use Rattle.context.specs.Range.{HeaderFits, Held}
-use Rattle.context.specs.Relation.{Near, Constants, Running, Close, Related, Arrives, received, receivedOf, isFull, idTrack, idSeen, sequenceTrack, sequenceSeen, timestampTrack, timestampSeen}
+use Rattle.context.specs.Relation.{Constants, Running, Close, Related, Arrives, received, isFull, idTrack, idSeen, sequenceTrack, sequenceSeen, timestampTrack, timestampSeen}
 use Rattle.context.specs.declared.kept.Deltas.{Deltas}
 use Rattle.context.specs.declared.kept.Link.{Link}
 use Rattle.context.specs.declared.compressor.Usage.the-variants as usage
 use Rattle.context.specs.declared.compressor.CompressorContext.{CompressorContext}
 use Rattle.context.specs.declared.decompressor.Status.the-variants.{Live}
 use Rattle.context.specs.declared.decompressor.DecompressorContext.{DecompressorContext}
-use Rattle.context.specs.declared.decompressor.Outcome.the-variants.{Accepted}
 use Rattle.context.specs.declared.step.Kind.{Kind}
 use Rattle.context.specs.declared.step.Kind.the-variants.{FullHeader, CompressedUdp, CompressedRtp}
 use Rattle.context.proofs.Tests.{SameConstants, same-constants, adoptsId-off, adoptsTimestamp-off, adoptsId-full, adoptsTimestamp-full, isDue-false, anyDue-false}

@@ -1,6 +1,6 @@
 -- Iarwennol. Laws of one changing field, each once over its width w. Assume nothing.
 -- Used for ID, sequence and timestamp by the laws of a packet that is lost and of one that arrives.
-use Prim.Native.Nat.{ℕ, suc, _+_, _-_, _^_, _≤_, _<_}
+use Prim.Native.Nat.{ℕ, suc, _-_, _^_, _≤_, _<_}
 use mathlib.Core.Path.{_≡_, refl, sym, ap, _∙_}
 use mathlib.Core.Bool.{Bool, true, false, cond, false≢true}
 use native.Mathlib.Omega.{arith}

@@ -13,9 +13,7 @@ use Rattle.context.specs.declared.refusal.Refusal.the-variants.{NotLive,
 use Rattle.context.specs.declared.decompressor.Status.{Status}
 use Rattle.context.specs.declared.decompressor.Status.the-variants.{Empty, Live, Broken}
 use Rattle.context.specs.declared.decompressor.DecompressorContext.{DecompressorContext}
-use Rattle.context.specs.declared.decompressor.Outcome.{Outcome}
 use Rattle.context.specs.declared.decompressor.Outcome.the-variants.{Accepted, Refused}
-use Rattle.context.specs.declared.decompressor.Applied.{Applied}
 
 ---- outcomeOf
 
@@ -40,6 +38,17 @@ accepted-by Broken n q c e = absurd (refused-accepted NotLive e)
 pub outcome-accepted : (n q : ℕ) (c : DecompressorContext) → outcomeOf n q c ≡ Accepted → 1 ≤ gap (c .link .sequence) q
 unfolding outcomeOf
 outcome-accepted n q c e = accepted-by (c .status) n q c e
+
+live-by : (s : Status) (n q : ℕ) (c : DecompressorContext) → outcomeBy s n q c ≡ Accepted → s ≡ Live
+unfolding outcomeBy
+live-by Empty n q c e = absurd (refused-accepted NotLive e)
+live-by Live n q c e = refl
+live-by Broken n q c e = absurd (refused-accepted NotLive e)
+
+-- and its context is live
+pub outcome-live : (n q : ℕ) (c : DecompressorContext) → outcomeOf n q c ≡ Accepted → c .status ≡ Live
+unfolding outcomeOf
+outcome-live n q c e = live-by (c .status) n q c e
 
 ---- gap
 

@@ -5,3 +5,7 @@ pub mod Ready
 pub mod Lost
 pub mod Arrives
 pub mod Others
+pub mod SoundFacts
+pub mod CompressorSound
+pub mod DecompressorSound
+pub mod PartsLaws

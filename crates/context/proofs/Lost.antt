@@ -7,7 +7,6 @@ use native.Mathlib.Omega.{arith}
 use borrow.Author.Tests.{eqb-true, not-false}
 use Rattle.codes.specs.Difference.{difference}
 use Rattle.packet.specs.CsrcLaws.{sameList-true}
-use Rattle.packet.specs.declared.csrc.Csrc.{Csrc}
 use Rattle.packet.specs.declared.header.Header.{Header}
 use Rattle.context.specs.Field.{counted, nextSequence, offPattern}
 use Rattle.context.specs.Compressor.{sameConstants, started, begun, reset, judged, adoptsId, adoptsTimestamp, dueAfter, deltasAfter, moved, sentWith, stepOf}

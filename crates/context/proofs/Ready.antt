@@ -1,8 +1,8 @@
 -- Iarwennol. Laws of what comes before a packet is judged: a run that starts, deltas that are reset. Assume nothing.
 -- Used by the laws of a packet that is lost, of one that arrives, of its parts and of soundness.
-use Prim.Native.Nat.{ℕ, _+_, _^_, _≤_, _<_}
+use Prim.Native.Nat.{ℕ, _≤_, _<_}
 use mathlib.Core.Path.{_≡_, refl, sym, ap, _∙_}
-use mathlib.Core.Bool.{Bool, true, false, cond}
+use mathlib.Core.Bool.{Bool, true, false}
 use native.Mathlib.Omega.{arith}
 use lib.Dec.{eqb}
 use borrow.Author.Tests.{eqb-false, ne-eqb}

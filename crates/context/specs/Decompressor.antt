@@ -1,11 +1,10 @@
 -- Iarwennol. The decompressor's rules for one context (rules 7, 3.1). n: the repeats; g: the gap; q: a packet's link sequence.
 -- Used by rebuild, whose code equals them, and by the relation between the ends.
 use Prim.Native.Nat.{ℕ, _+_}
-use mathlib.Core.Bool.{Bool, true, false, cond, not, _||_}
+use mathlib.Core.Bool.{Bool, true, cond, not, _||_}
 use lib.Dec.{eqb, ltb}
 use Rattle.packet.specs.declared.header.Header.{Header}
 use Rattle.packet.specs.declared.header.RtpHeader.{RtpHeader}
-use Rattle.packet.specs.declared.header.Flow.{Flow}
 use Rattle.packet.specs.declared.header.Ip.{Ip}
 use Rattle.packet.specs.declared.header.Rtp.{Rtp}
 use Rattle.packet.specs.declared.parts.Parts.{Parts}
@@ -13,7 +12,6 @@ use Rattle.context.specs.Field.{gap, movedOn}
 use Rattle.context.specs.Refusal.{numberOf}
 use Rattle.context.specs.declared.kept.Deltas.{Deltas}
 use Rattle.context.specs.declared.kept.Link.{Link}
-use Rattle.context.specs.declared.refusal.Refusal.{Refusal}
 use Rattle.context.specs.declared.refusal.Refusal.the-variants.{NotLive, OutOfStep}
 use Rattle.context.specs.declared.decompressor.Status.{Status}
 use Rattle.context.specs.declared.decompressor.Status.the-variants.{Empty, Live, Broken}

@@ -5,3 +5,4 @@ pub mod Decompressor
 pub mod Sound
 pub mod Range
 pub mod Relation
+pub mod Cases

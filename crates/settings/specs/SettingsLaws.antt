@@ -1,7 +1,7 @@
 -- Iarwennol. Laws of the settings. Assume nothing.
 -- Used by the proof of open, and by the tables, whose code may rely on these bounds.
 use Prim.Native.Nat.{ℕ, _≤_}
-use mathlib.Core.Path.{_≡_, refl}
+use mathlib.Core.Path.{_≡_}
 use mathlib.Core.Bool.{true, _&&_, and-eq-true-iff}
 use lib.Dec.{leb}
 use borrow.Author.Tests.{leb-true}

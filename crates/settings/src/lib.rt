@@ -20,7 +20,9 @@ pub enum Opened {
 
 impl Settings {
     pub const MAX_REPEATS: u32 = 14;
+
     pub const MIN_CONTEXTS: u32 = 1;
+
     pub const MAX_CONTEXTS: u32 = 64;
 
     fn in_range(n: u32, k: u32) -> bool
