@@ -47,13 +47,23 @@ standing q g f h d = record {
 }
 
 -- a checksum that is not carried is the blank one
-pub checksum-back : (b : Bool) (x : ℕ) → eqb x 0 ≡ b → cond (not b) x 0 ≡ x
+checksum-back : (b : Bool) (x : ℕ) → eqb x 0 ≡ b → cond (not b) x 0 ≡ x
 checksum-back true x e = sym (eqb-true x 0 e)
 checksum-back false x e = refl
 
-standing-exact : (q g : ℕ) (f : Bool) (h : Header) (d : Deltas) → rebuilt (standing q g f h d) (h .checksum) ≡ h
-unfolding rebuilt
-standing-exact q g f h d = λ i. record {
+-- the header of a context that has the packet's fields
+abbrev fieldsOf : Header → Header
+fieldsOf h = record {
+  flow = h .flow;
+  ip = h .ip;
+  rtp = h .rtp;
+  csrc = h .csrc;
+  marker = h .marker;
+  checksum = cond (not (eqb (h .checksum) 0)) (h .checksum) 0;
+}
+
+fields-back : (h : Header) → fieldsOf h ≡ h
+fields-back h = λ i. record {
   flow = h .flow;
   ip = h .ip;
   rtp = h .rtp;
@@ -62,9 +72,13 @@ standing-exact q g f h d = λ i. record {
   checksum = checksum-back (eqb (h .checksum) 0) (h .checksum) refl i;
 }
 
+standing-exact : (q g : ℕ) (f : Bool) (h : Header) (d : Deltas) → rebuilt (standing q g f h d) (h .checksum) ≡ h
+unfolding rebuilt
+standing-exact q g f h d = fields-back h
+
 pub filled-exact : (h : Header) (l : Link) → rebuilt (filled h l) (h .checksum) ≡ h
-unfolding filled
-filled-exact h l = standing-exact (l .sequence) (l .generation) true h resetDeltas
+unfolding rebuilt filled
+filled-exact h l = fields-back h
 
 close-now : (n g : ℕ) (f : Bool) (h : Header) (c : CompressorContext) (d : Deltas) → h .flow ≡ c .flow → c .link .sequence < 16 →
     d ≡ deltasAfter (c .deltas) (judged h c) → (1 ≤ c .due .full - 1 → Running (moved n h c (judged h c))) →

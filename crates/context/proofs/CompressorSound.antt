@@ -2,13 +2,13 @@
 -- Used by the soundness of the compressor's table after each call, and by the laws of a packet's parts.
 use Prim.Native.Nat.{ℕ, _+_, _%_, _≤_}
 use mathlib.Core.Path.{_≡_, refl, sym, ap, _∙_}
-use mathlib.Core.Bool.{Bool, true, false, cond}
+use mathlib.Core.Bool.{Bool, true, false}
 use native.Mathlib.Omega.{arith}
-use lib.Dec.{eqb, ltb}
+use lib.Dec.{eqb}
 use Rattle.codes.specs.Difference.{hasCode}
 use Rattle.packet.specs.declared.header.Header.{Header}
 use Rattle.context.specs.Field.{counted, nextSequence, nextGeneration}
-use Rattle.context.specs.Compressor.{first, started, sameConstants, begun, startedUnlessDue, requestedBy, requested, reset, differences, adoptsTimestamp, judged, dueAfter, deltasAfter, moved, stepOf}
+use Rattle.context.specs.Compressor.{resetDeltas, unrepeated, withDeltas, first, started, sameConstants, begun, skips, startedUnlessDue, requestedBy, requested, reset, adoptsTimestamp, judged, dueAfter, deltasAfter, moved, stepOf}
 use Rattle.context.specs.Range.{HeaderFits}
 use Rattle.context.specs.Sound.{soundLink, usedSound, unusedSound, soundCompressorBy, soundCompressor, emptyCompressor, zeroFlow, zeroIp, zeroRtp, zeroList, zeroDeltas, zeroEarlier, zeroDue, zeroLink}
 use Rattle.context.specs.declared.kept.Link.{Link}
@@ -17,8 +17,8 @@ use Rattle.context.specs.declared.compressor.Usage.the-variants.{Empty, 
 use Rattle.context.specs.declared.compressor.Due.{Due}
 use Rattle.context.specs.declared.compressor.CompressorContext.{CompressorContext}
 use Rattle.context.specs.declared.step.Judged.{Judged}
-use Rattle.context.proofs.Tests.{adoptsTimestamp-coded}
-use Rattle.context.proofs.Ready.{begun-same, begun-started}
+use Rattle.context.proofs.Tests.{cond-when, cond-both, adoptsTimestamp-coded}
+use Rattle.context.proofs.Ready.{Kept, started-kept}
 use Rattle.context.proofs.Lost.{step-context}
 use Rattle.context.proofs.Arrives.{step-status}
 use Rattle.context.proofs.SoundFacts.{LinkBounds, soundLink-bounds, DueBounds, UsedBounds, usedSound-bounds, bounds-usedSound, hasCode-zero}
@@ -47,12 +47,6 @@ due-bounds n d j b = record {
   dts = counted-bound n (j .dts) (d .dts) (b .dts);
 }
 
----- hasCode
-
-pub coded-by : (b : Bool) (x y : ℕ) → (b ≡ true → hasCode 32 x ≡ true) → hasCode 32 y ≡ true → hasCode 32 (cond b x y) ≡ true
-coded-by true x y f g = f refl
-coded-by false x y f g = g
-
 ---- The bounds of a context in use, step by step
 
 moved-bounds : (n : ℕ) (h : Header) (c : CompressorContext) → HeaderFits h → UsedBounds n c → UsedBounds n (moved n h c (judged h c))
@@ -62,7 +56,7 @@ moved-bounds n h c f b = record {
   flags = f .flags;
   payload = f .payload;
   list = f .list;
-  coded = coded-by (adoptsTimestamp h c) (differences h c .timestamp) (c .deltas .timestamp) (adoptsTimestamp-coded h c) (b .coded);
+  coded = cond-when (λ (d : ℕ). hasCode 32 d ≡ true) (adoptsTimestamp h c) _ _ (adoptsTimestamp-coded h c) (b .coded);
   due = due-bounds n (c .due) (judged h c) (b .due);
   link = record { sequence = omega arith; generation = b .link .generation };
 }
@@ -79,14 +73,13 @@ started-bounds n c b = let d = b .due in record {
   link = record { sequence = b .link .sequence; generation = omega arith };
 }
 
-begun-bounds : (same : Bool) (n : ℕ) (h : Header) (c : CompressorContext) → sameConstants h c ≡ same → UsedBounds n c → UsedBounds n (begun n h c)
-begun-bounds true n h c e b = rw (begun-same n h c e) b
-begun-bounds false n h c e b = rw (begun-started n h c e) (started-bounds n c b)
+begun-bounds : (n : ℕ) (h : Header) (c : CompressorContext) → UsedBounds n c → UsedBounds n (begun n h c)
+unfolding begun
+begun-bounds n h c b = cond-both (λ (d : CompressorContext). UsedBounds n d) (sameConstants h c) _ _ b (started-bounds n c b)
 
-reset-bounds : (none : Bool) (n : ℕ) (c : CompressorContext) → eqb (c .due .full) 0 ≡ none → UsedBounds n c → UsedBounds n (reset c)
+reset-bounds : (n : ℕ) (c : CompressorContext) → UsedBounds n c → UsedBounds n (reset c)
 unfolding reset
-reset-bounds true n c e b = rw e b
-reset-bounds false n c e b = let d = b .due in rw e (record {
+reset-bounds n c b = let d = b .due in cond-both (λ (x : CompressorContext). UsedBounds n x) (eqb (c .due .full) 0) _ (withDeltas resetDeltas (unrepeated (c .due)) c) b (record {
   port = b .port;
   flags = b .flags;
   payload = b .payload;
@@ -97,7 +90,7 @@ reset-bounds false n c e b = let d = b .due in rw e (record {
 })
 
 pub ready-bounds : (n : ℕ) (h : Header) (c : CompressorContext) → UsedBounds n c → UsedBounds n (reset (begun n h c))
-ready-bounds n h c b = reset-bounds (eqb (begun n h c .due .full) 0) n (begun n h c) refl (begun-bounds (sameConstants h c) n h c refl b)
+ready-bounds n h c b = reset-bounds n (begun n h c) (begun-bounds n h c b)
 
 step-bounds : (n : ℕ) (h : Header) (c : CompressorContext) → HeaderFits h → UsedBounds n c → UsedBounds n (stepOf n h c .context)
 step-bounds n h c f b = rw (step-context n h c) (moved-bounds n h (reset (begun n h c)) f (ready-bounds n h c b))
@@ -114,10 +107,9 @@ first-bounds n h l f even b = record {
   link = record { sequence = omega arith; generation = b .generation };
 }
 
-unless-bounds : (due : Bool) (n : ℕ) (c : CompressorContext) → ltb 0 (c .due .full) ≡ due → UsedBounds n c → UsedBounds n (startedUnlessDue n c)
+unless-bounds : (n : ℕ) (c : CompressorContext) → UsedBounds n c → UsedBounds n (startedUnlessDue n c)
 unfolding startedUnlessDue
-unless-bounds true n c e b = rw e b
-unless-bounds false n c e b = rw e (started-bounds n c b)
+unless-bounds n c b = cond-both (λ (d : CompressorContext). UsedBounds n d) (skips c) _ _ b (started-bounds n c b)
 
 ---- soundCompressor
 
@@ -147,43 +139,26 @@ sound-step n h c f u s = bounds-soundCompressor n (stepOf n h c .context) (step-
 
 ---- requested
 
-unless-status : (due : Bool) (n : ℕ) (c : CompressorContext) → ltb 0 (c .due .full) ≡ due → startedUnlessDue n c .status ≡ c .status
-unfolding startedUnlessDue started
-unless-status true n c e = rw e
-unless-status false n c e = rw e
+unless-kept : (n : ℕ) (c : CompressorContext) → Kept (startedUnlessDue n c) c
+unfolding startedUnlessDue
+unless-kept n c = cond-both (λ (d : CompressorContext). Kept d c) (skips c) _ _ (record { status = refl; flow = refl; link = refl }) (started-kept n c)
 
-requested-live : (n : ℕ) (c : CompressorContext) → c .status ≡ Live → soundCompressor n c ≡ true → soundCompressor n (startedUnlessDue n c) ≡ true
-requested-live n c u s =
-    let due = ltb 0 (c .due .full) in
-    bounds-soundCompressor n (startedUnlessDue n c) (unless-status due n c refl ∙ u) (unless-bounds due n c refl (soundCompressor-bounds n c u s))
+kept-by : (u : Usage) (n : ℕ) (c : CompressorContext) → Kept (requestedBy u n c) c
+kept-by Empty n c = record { status = refl; flow = refl; link = refl }
+kept-by Live n c = unless-kept n c
+
+-- a request leaves status, flow and link sequence of its context
+pub requested-kept : (n : ℕ) (c : CompressorContext) → Kept (requested n c) c
+unfolding requested
+requested-kept n c = kept-by (c .status) n c
+
+sound-unless : (n : ℕ) (c : CompressorContext) → c .status ≡ Live → soundCompressor n c ≡ true → soundCompressor n (startedUnlessDue n c) ≡ true
+sound-unless n c u s = bounds-soundCompressor n (startedUnlessDue n c) (unless-kept n c .status ∙ u) (unless-bounds n c (soundCompressor-bounds n c u s))
 
 requested-by : (u : Usage) (n : ℕ) (c : CompressorContext) → c .status ≡ u → soundCompressor n c ≡ true → soundCompressor n (requestedBy u n c) ≡ true
 requested-by Empty n c e s = s
-requested-by Live n c e s = requested-live n c e s
+requested-by Live n c e s = sound-unless n c e s
 
 pub sound-requested : (n : ℕ) (c : CompressorContext) → soundCompressor n c ≡ true → soundCompressor n (requested n c) ≡ true
 unfolding requested
 sound-requested n c s = requested-by (c .status) n c refl s
-
----- What a request leaves alone
-
-started-flow-by : (due : Bool) (n : ℕ) (c : CompressorContext) → ltb 0 (c .due .full) ≡ due → startedUnlessDue n c .flow ≡ c .flow
-unfolding startedUnlessDue started
-started-flow-by true n c e = rw e
-started-flow-by false n c e = rw e
-
-requested-status-by : (u : Usage) (n : ℕ) (c : CompressorContext) → requestedBy u n c .status ≡ c .status
-requested-status-by Empty n c = refl
-requested-status-by Live n c = unless-status (ltb 0 (c .due .full)) n c refl
-
-requested-flow-by : (u : Usage) (n : ℕ) (c : CompressorContext) → requestedBy u n c .flow ≡ c .flow
-requested-flow-by Empty n c = refl
-requested-flow-by Live n c = started-flow-by (ltb 0 (c .due .full)) n c refl
-
-pub requested-status : (n : ℕ) (c : CompressorContext) → requested n c .status ≡ c .status
-unfolding requested
-requested-status n c = requested-status-by (c .status) n c
-
-pub requested-flow : (n : ℕ) (c : CompressorContext) → requested n c .flow ≡ c .flow
-unfolding requested
-requested-flow n c = requested-flow-by (c .status) n c

@@ -3,6 +3,7 @@
 use Prim.Native.Nat.{ℕ, _≤_}
 use mathlib.Core.Path.{_≡_, refl, sym, ap, _∙_}
 use mathlib.Core.Bool.{Bool, true, false, cond, not, _&&_, false≢true, and-eq-true-iff}
+use Rattle.codes.specs.Difference.{hasCode}
 use Rattle.packet.specs.declared.csrc.Csrc.{Csrc}
 use Rattle.packet.specs.declared.header.Header.{Header}
 use Rattle.packet.specs.declared.header.RtpHeader.{RtpHeader}
@@ -17,9 +18,9 @@ use Rattle.context.specs.declared.decompressor.Status.the-variants.{Empt
 use Rattle.context.specs.declared.decompressor.DecompressorContext.{DecompressorContext}
 use Rattle.context.specs.declared.decompressor.Outcome.{Outcome}
 use Rattle.context.specs.declared.decompressor.Outcome.the-variants.{Accepted, Refused}
+use Rattle.context.proofs.Tests.{cond-when}
 use Rattle.context.proofs.Gap.{outcome-live}
 use Rattle.context.proofs.SoundFacts.{soundLink-bounds, FilledBounds, filledSound-bounds, bounds-filledSound, hasCode-zero}
-use Rattle.context.proofs.CompressorSound.{coded-by}
 
 ---- A live context is sound where it is filled and its fields are in range
 
@@ -57,23 +58,15 @@ sound-filled h l f s = bounds-soundDecompressor (filled h l) refl refl (record {
 
 ---- advanced, advancedWhole
 
-payload-by : (b : Bool) (x y : ℕ) → (b ≡ true → x ≤ 127) → y ≤ 127 → cond b x y ≤ 127
-payload-by true x y f g = f refl
-payload-by false x y f g = g
-
-list-by : (b : Bool) (x y : Csrc) → (b ≡ true → soundList x ≡ true) → soundList y ≡ true → soundList (cond b x y) ≡ true
-list-by true x y f g = f refl
-list-by false x y f g = g
-
 pub sound-advanced : (g q : ℕ) (c : DecompressorContext) (p : Parts) → q ≤ 15 → PartsSound p → c .status ≡ Live → soundDecompressor c ≡ true → soundDecompressor (advanced g q c p) ≡ true
 unfolding advanced ipAfter rtpAfter deltasHeld
 sound-advanced g q c p small a u s =
     let b = soundDecompressor-bounds c u s in
     bounds-soundDecompressor (advanced g q c p) u (live-filled c u s .0) (record {
       flags = b .flags;
-      payload = payload-by (p .payload .sent) (p .payload .value) (c .rtp .payload) (a .payload) (b .payload);
-      list = list-by (p .listed) (p .csrc) (c .csrc) (a .list) (b .list);
-      coded = coded-by (p .dts .sent) (p .dts .value) (c .deltas .timestamp) (a .dts) (b .coded);
+      payload = cond-when (λ (x : ℕ). x ≤ 127) (p .payload .sent) _ _ (a .payload) (b .payload);
+      list = cond-when (λ (x : Csrc). soundList x ≡ true) (p .listed) _ _ (a .list) (b .list);
+      coded = cond-when (λ (x : ℕ). hasCode 32 x ≡ true) (p .dts .sent) _ _ (a .dts) (b .coded);
       link = record { sequence = small; generation = b .link .generation };
     })
 
@@ -86,7 +79,7 @@ sound-whole g q c p w small a t u s =
       flags = b .flags;
       payload = t .payload;
       list = t .list;
-      coded = coded-by (p .dts .sent) (p .dts .value) (c .deltas .timestamp) (a .dts) (b .coded);
+      coded = cond-when (λ (x : ℕ). hasCode 32 x ≡ true) (p .dts .sent) _ _ (a .dts) (b .coded);
       link = record { sequence = small; generation = b .link .generation };
     })
 

@@ -1,7 +1,7 @@
 -- Iarwennol. Laws of the gap and of what becomes of a CU or CR. Assume nothing.
 -- Used by the law of a packet that arrives, and by the code, which makes g - 1 steps only of an accepted packet.
 use Prim.Native.Nat.{ℕ, zero, suc, _+_, _%_, _≤_, _<_}
-use mathlib.Core.Path.{_≡_, refl, ap, _∙_}
+use mathlib.Core.Path.{_≡_, refl, sym, ap, _∙_}
 use mathlib.Core.Bool.{Bool, true, false, cond, true≢false}
 use native.Mathlib.Omega.{arith}
 use borrow.Author.Tests.{le-ltb, ne-eqb}
@@ -28,27 +28,25 @@ gap-accepted : (b : Bool) (n g : ℕ) → outOfStep n g ≡ b → cond b (Refuse
 gap-accepted true n g e h = absurd (refused-accepted OutOfStep h)
 gap-accepted false n g e h = in-step n g e
 
-accepted-by : (s : Status) (n q : ℕ) (c : DecompressorContext) → outcomeBy s n q c ≡ Accepted → 1 ≤ gap (c .link .sequence) q
-unfolding outcomeBy gapOutcome
-accepted-by Empty n q c e = absurd (refused-accepted NotLive e)
-accepted-by Live n q c e = gap-accepted (outOfStep n (gap (c .link .sequence) q)) n (gap (c .link .sequence) q) refl e
-accepted-by Broken n q c e = absurd (refused-accepted NotLive e)
-
--- an accepted packet is a step on, or more
-pub outcome-accepted : (n q : ℕ) (c : DecompressorContext) → outcomeOf n q c ≡ Accepted → 1 ≤ gap (c .link .sequence) q
-unfolding outcomeOf
-outcome-accepted n q c e = accepted-by (c .status) n q c e
-
 live-by : (s : Status) (n q : ℕ) (c : DecompressorContext) → outcomeBy s n q c ≡ Accepted → s ≡ Live
 unfolding outcomeBy
 live-by Empty n q c e = absurd (refused-accepted NotLive e)
 live-by Live n q c e = refl
 live-by Broken n q c e = absurd (refused-accepted NotLive e)
 
--- and its context is live
+-- an accepted packet's context is live
 pub outcome-live : (n q : ℕ) (c : DecompressorContext) → outcomeOf n q c ≡ Accepted → c .status ≡ Live
 unfolding outcomeOf
 outcome-live n q c e = live-by (c .status) n q c e
+
+live-accepted : (n q : ℕ) (c : DecompressorContext) → outcomeBy Live n q c ≡ Accepted → 1 ≤ gap (c .link .sequence) q
+unfolding outcomeBy gapOutcome
+live-accepted n q c e = gap-accepted (outOfStep n (gap (c .link .sequence) q)) n (gap (c .link .sequence) q) refl e
+
+-- and the packet is a step on, or more
+pub outcome-accepted : (n q : ℕ) (c : DecompressorContext) → outcomeOf n q c ≡ Accepted → 1 ≤ gap (c .link .sequence) q
+unfolding outcomeOf
+outcome-accepted n q c e = live-accepted n q c (sym (ap (λ (s : Status). outcomeBy s n q c) (outcome-live n q c e)) ∙ e)
 
 ---- gap
 

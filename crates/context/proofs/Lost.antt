@@ -2,10 +2,9 @@
 -- Used by robustness over lists of calls (rule 10).
 use Prim.Native.Nat.{ℕ, suc, _+_, _-_, _^_, _≤_, _<_}
 use mathlib.Core.Path.{_≡_, refl, sym, ap, _∙_}
-use mathlib.Core.Bool.{Bool, true, false, cond, not, false≢true}
+use mathlib.Core.Bool.{Bool, true, false, not, false≢true}
 use native.Mathlib.Omega.{arith}
 use borrow.Author.Tests.{eqb-true, not-false}
-use Rattle.codes.specs.Difference.{difference}
 use Rattle.packet.specs.CsrcLaws.{sameList-true}
 use Rattle.packet.specs.declared.header.Header.{Header}
 use Rattle.context.specs.Field.{counted, nextSequence, offPattern}
@@ -15,15 +14,11 @@ use Rattle.context.specs.Relation.{Near, Constants, Running, Close, Rela
 use Rattle.context.specs.declared.compressor.Usage.the-variants.{Live}
 use Rattle.context.specs.declared.compressor.CompressorContext.{CompressorContext}
 use Rattle.context.specs.declared.decompressor.DecompressorContext.{DecompressorContext}
-use Rattle.context.proofs.Tests.{SameConstants, same-constants, adoptsId-off, adoptsTimestamp-off, adoptsId-full, adoptsTimestamp-full}
+use Rattle.context.proofs.Tests.{cond-both, SameConstants, same-constants, adoptsId-off, adoptsTimestamp-off, adoptsId-full, adoptsTimestamp-full}
 use Rattle.context.proofs.FieldLaws.{difference-fits, near-lost}
 use Rattle.context.proofs.Ready.{started-full, begun-same, begun-started, reset-full, ready-same, ready-held}
 
 ---- moved
-
-fits-by : (b : Bool) (w x y : ℕ) → x < 2 ^ w → y < 2 ^ w → cond b x y < 2 ^ w
-fits-by true w x y h k = h
-fits-by false w x y h k = k
 
 pub moved-held : (n : ℕ) (h : Header) (c : CompressorContext) → HeaderFits h → Held c → Held (moved n h c (judged h c))
 unfolding moved deltasAfter judged nextSequence
@@ -31,8 +26,8 @@ moved-held n h c f k = record {
   id = f .id;
   sequence = f .sequence;
   timestamp = f .timestamp;
-  did = fits-by (adoptsId h c) 16 (difference 16 (c .ip .id) (h .ip .id)) (c .deltas .id) (difference-fits 16 (c .ip .id) (h .ip .id)) (k .did);
-  dts = fits-by (adoptsTimestamp h c) 32 (difference 32 (c .rtp .timestamp) (h .rtp .timestamp)) (c .deltas .timestamp) (difference-fits 32 (c .rtp .timestamp) (h .rtp .timestamp)) (k .dts);
+  did = cond-both (λ (d : ℕ). d < 2 ^ 16) (adoptsId h c) _ _ (difference-fits 16 (c .ip .id) (h .ip .id)) (k .did);
+  dts = cond-both (λ (d : ℕ). d < 2 ^ 32) (adoptsTimestamp h c) _ _ (difference-fits 32 (c .rtp .timestamp) (h .rtp .timestamp)) (k .dts);
   link = omega arith;
 }
 

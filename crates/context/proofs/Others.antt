@@ -2,12 +2,11 @@
 -- Used by robustness over lists of calls (rule 10).
 use Prim.Native.Nat.{ℕ, suc, _≤_, _<_}
 use mathlib.Core.Path.{_≡_, refl}
-use mathlib.Core.Bool.{Bool, true, false, true≢false}
+use mathlib.Core.Bool.{true, false, true≢false}
 use native.Mathlib.Omega.{arith}
-use lib.Dec.{ltb}
 use Rattle.packet.specs.declared.header.Header.{Header}
 use Rattle.context.specs.Field.{nextSequence}
-use Rattle.context.specs.Compressor.{started, startedUnlessDue, requested, requestedBy, first, firstStep, partsOf}
+use Rattle.context.specs.Compressor.{started, skips, startedUnlessDue, requested, requestedBy, first, firstStep, partsOf}
 use Rattle.context.specs.Decompressor.{filled}
 use Rattle.context.specs.Range.{HeaderFits, Held}
 use Rattle.context.specs.Sound.{emptyCompressor}
@@ -17,6 +16,7 @@ use Rattle.context.specs.declared.compressor.Usage.{Usage}
 use Rattle.context.specs.declared.compressor.Usage.the-variants.{Empty, Live}
 use Rattle.context.specs.declared.compressor.CompressorContext.{CompressorContext}
 use Rattle.context.specs.declared.decompressor.DecompressorContext.{DecompressorContext}
+use Rattle.context.proofs.Tests.{cond-both}
 use Rattle.context.proofs.FieldLaws.{near-now}
 use Rattle.context.proofs.Ready.{started-full, started-held}
 use Rattle.context.proofs.Arrives.{filled-exact}
@@ -68,14 +68,13 @@ related-first-arrives n v h l f small = record {
 started-related : (n j : ℕ) (v : DecompressorContext) (s : CompressorContext) → Related n j v s → Related n j v (started n s)
 started-related n j v s r = record { few = r .few; held = started-held n s (r .held); close = λ u k. absurd (omega (arith, started-full n s)) }
 
-related-unless : (b : Bool) (n j : ℕ) (v : DecompressorContext) (s : CompressorContext) → ltb 0 (s .due .full) ≡ b → Related n j v s → Related n j v (startedUnlessDue n s)
+related-unless : (n j : ℕ) (v : DecompressorContext) (s : CompressorContext) → Related n j v s → Related n j v (startedUnlessDue n s)
 unfolding startedUnlessDue
-related-unless true n j v s e r = rw e r
-related-unless false n j v s e r = rw e (started-related n j v s r)
+related-unless n j v s r = cond-both (λ (c : CompressorContext). Related n j v c) (skips s) _ _ r (started-related n j v s r)
 
 related-by : (u : Usage) (n j : ℕ) (v : DecompressorContext) (s : CompressorContext) → Related n j v s → Related n j v (requestedBy u n s)
 related-by Empty n j v s r = r
-related-by Live n j v s r = related-unless (ltb 0 (s .due .full)) n j v s refl r
+related-by Live n j v s r = related-unless n j v s r
 
 pub related-requested : (n j : ℕ) (v : DecompressorContext) (s : CompressorContext) → Related n j v s → Related n j v (requested n s)
 unfolding requested

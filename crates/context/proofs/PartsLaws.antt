@@ -7,21 +7,22 @@ use native.Mathlib.Omega.{arith}
 use lib.Dec.{ltb}
 use lib.ListN.{length}
 use borrow.Author.Tests.{eqb-true}
+use Rattle.codes.specs.Difference.{hasCode}
 use Rattle.packet.specs.Csrc.{noList}
 use Rattle.packet.specs.declared.csrc.Csrc.{Csrc}
 use Rattle.packet.specs.declared.header.Header.{Header}
-use Rattle.context.specs.Compressor.{begun, reset, differences, adoptsTimestamp, judged, dueNow, anyDue, kindOf, listIf, partsOf, deltasAfter, moved, sentWith, sentFrom, stepOf}
+use Rattle.context.specs.Compressor.{begun, reset, adoptsTimestamp, judged, dueNow, anyDue, kindOf, listIf, partsOf, deltasAfter, moved, sentWith, sentFrom, stepOf}
 use Rattle.context.specs.Range.{HeaderFits, Held, Sendable, PartsFit, Bare}
 use Rattle.context.specs.Sound.{soundList, soundLink, soundCompressor}
 use Rattle.context.specs.declared.compressor.Usage.the-variants.{Live}
 use Rattle.context.specs.declared.compressor.CompressorContext.{CompressorContext}
 use Rattle.context.specs.declared.step.DueNow.{DueNow}
 use Rattle.context.specs.declared.step.Kind.the-variants.{FullHeader, CompressedUdp, CompressedRtp}
-use Rattle.context.proofs.Tests.{adoptsTimestamp-coded, NoneDue, anyDue-false}
+use Rattle.context.proofs.Tests.{cond-when, cond-both, adoptsTimestamp-coded, NoneDue, anyDue-false}
 use Rattle.context.proofs.Ready.{ready-held}
 use Rattle.context.proofs.Lost.{moved-held}
 use Rattle.context.proofs.SoundFacts.{UsedBounds, hasCode-zero, soundList-none, bounds-soundLink}
-use Rattle.context.proofs.CompressorSound.{coded-by, ready-bounds, soundCompressor-bounds}
+use Rattle.context.proofs.CompressorSound.{ready-bounds, soundCompressor-bounds}
 
 ---- Sendable
 
@@ -33,13 +34,11 @@ sendable-if w false x z h = record { fits = z; none = λ e. refl }
 
 list-sound : (any : Bool) (l : Csrc) → soundList l ≡ true → soundList (listIf any l) ≡ true
 unfolding listIf
-list-sound true l s = s
-list-sound false l s = soundList-none
+list-sound any l s = cond-both (λ (x : Csrc). soundList x ≡ true) any l noList s soundList-none
 
 list-words : (any : Bool) (l : Csrc) → length (l .words) ≡ 15 → length (listIf any l .words) ≡ 15
 unfolding listIf
-list-words true l s = s
-list-words false l s = refl
+list-words any l s = cond-both (λ (x : Csrc). length (x .words) ≡ 15) any l noList s refl
 
 list-unlisted : (any : Bool) (l : Csrc) → any ≡ false → listIf any l ≡ noList
 unfolding listIf
@@ -64,8 +63,8 @@ module _ (n : ℕ) (h : Header) (c : CompressorContext) (fits : HeaderFits h) (h
         did = sendable-if 16 (d .did) (moved n h c (judged h c) .deltas .id) (omega arith) (k .did);
         dsn = sendable-if 16 false 0 (omega arith) (omega arith);
         dts = sendable-if 32 (d .dts) (moved n h c (judged h c) .deltas .timestamp) (omega arith) (k .dts);
-        coded = coded-by (d .dts) (moved n h c (judged h c) .deltas .timestamp) 0
-            (λ e. coded-by (adoptsTimestamp h c) (differences h c .timestamp) (c .deltas .timestamp) (adoptsTimestamp-coded h c) (bounds .coded)) hasCode-zero;
+        coded = cond-both (λ (x : ℕ). hasCode 32 x ≡ true) (d .dts) _ 0
+            (cond-when (λ (x : ℕ). hasCode 32 x ≡ true) (adoptsTimestamp h c) _ _ (adoptsTimestamp-coded h c) (bounds .coded)) hasCode-zero;
         list = list-sound (anyDue d) (h .csrc) (fits .list);
         words = list-words (anyDue d) (h .csrc) (fits .words);
         unlisted = list-unlisted (anyDue d) (h .csrc);

@@ -11,6 +11,7 @@ use Rattle.context.specs.Compressor.{sameConstants, started, begun, rese
 use Rattle.context.specs.Range.{Held}
 use Rattle.context.specs.Relation.{Running}
 use Rattle.context.specs.declared.compressor.CompressorContext.{CompressorContext}
+use Rattle.context.proofs.Tests.{cond-both}
 
 ---- What both leave alone
 
@@ -30,7 +31,7 @@ pub started-held : (n : ℕ) (s : CompressorContext) → Held s → Held (starte
 unfolding started
 started-held n s h = record { id = h .id; sequence = h .sequence; timestamp = h .timestamp; did = h .did; dts = h .dts; link = h .link }
 
-started-kept : (n : ℕ) (c : CompressorContext) → Kept (started n c) c
+pub started-kept : (n : ℕ) (c : CompressorContext) → Kept (started n c) c
 unfolding started
 started-kept n c = record { status = refl; flow = refl; link = refl }
 
@@ -44,33 +45,31 @@ pub begun-started : (n : ℕ) (h : Header) (s : CompressorContext) → sameConst
 unfolding begun
 begun-started n h s e = rw e
 
-begun-held : (b : Bool) (n : ℕ) (h : Header) (s : CompressorContext) → sameConstants h s ≡ b → Held s → Held (begun n h s)
-begun-held true n h s e k = rw (begun-same n h s e) k
-begun-held false n h s e k = rw (begun-started n h s e) (started-held n s k)
+begun-held : (n : ℕ) (h : Header) (s : CompressorContext) → Held s → Held (begun n h s)
+unfolding begun
+begun-held n h s k = cond-both (λ (c : CompressorContext). Held c) (sameConstants h s) _ _ k (started-held n s k)
 
-begun-kept : (b : Bool) (n : ℕ) (h : Header) (c : CompressorContext) → sameConstants h c ≡ b → Kept (begun n h c) c
-begun-kept true n h c e = rw (begun-same n h c e) (record { status = refl; flow = refl; link = refl })
-begun-kept false n h c e = rw (begun-started n h c e) (started-kept n c)
+begun-kept : (n : ℕ) (h : Header) (s : CompressorContext) → Kept (begun n h s) s
+unfolding begun
+begun-kept n h s = cond-both (λ (c : CompressorContext). Kept c s) (sameConstants h s) _ _ (record { status = refl; flow = refl; link = refl }) (started-kept n s)
 
 ---- reset
 
-reset-full-by : (b : Bool) (c : CompressorContext) → eqb (c .due .full) 0 ≡ b → reset c .due .full ≡ c .due .full
-unfolding reset
-reset-full-by true c e = rw e
-reset-full-by false c e = rw e
-
 pub reset-full : (c : CompressorContext) → reset c .due .full ≡ c .due .full
-reset-full c = reset-full-by (eqb (c .due .full) 0) c refl
-
-reset-kept : (b : Bool) (c : CompressorContext) → eqb (c .due .full) 0 ≡ b → Kept (reset c) c
 unfolding reset
-reset-kept true c e = rw e (record { status = refl; flow = refl; link = refl })
-reset-kept false c e = rw e (record { status = refl; flow = refl; link = refl })
+reset-full c = cond-both (λ (d : CompressorContext). d .due .full ≡ c .due .full) (eqb (c .due .full) 0) _ _ refl refl
 
-reset-held : (b : Bool) (c : CompressorContext) → eqb (c .due .full) 0 ≡ b → Held c → Held (reset c)
+reset-kept : (c : CompressorContext) → Kept (reset c) c
 unfolding reset
-reset-held true c e h = rw e h
-reset-held false c e h = rw e (record { id = h .id; sequence = h .sequence; timestamp = h .timestamp; did = omega arith; dts = omega arith; link = h .link })
+reset-kept c =
+    cond-both (λ (d : CompressorContext). Kept d c) (eqb (c .due .full) 0) _ _
+    (record { status = refl; flow = refl; link = refl }) (record { status = refl; flow = refl; link = refl })
+
+reset-held : (c : CompressorContext) → Held c → Held (reset c)
+unfolding reset
+reset-held c h =
+    cond-both (λ (d : CompressorContext). Held d) (eqb (c .due .full) 0) _ _ h
+    (record { id = h .id; sequence = h .sequence; timestamp = h .timestamp; did = omega arith; dts = omega arith; link = h .link })
 
 -- a full header's context is reset
 pub reset-running : (c : CompressorContext) → 1 ≤ c .due .full → Running (reset c)
@@ -121,9 +120,9 @@ module _ (n : ℕ) (h : Header) (s : CompressorContext) where
 
   pub ready-kept : Kept (reset (begun n h s)) s
   ready-kept =
-      let a = reset-kept (eqb (begun n h s .due .full) 0) (begun n h s) refl in
-      let b = begun-kept (sameConstants h s) n h s refl in
+      let a = reset-kept (begun n h s) in
+      let b = begun-kept n h s in
       record { status = a .status ∙ b .status; flow = a .flow ∙ b .flow; link = a .link ∙ b .link }
 
   pub ready-held : Held s → Held (reset (begun n h s))
-  ready-held k = reset-held (eqb (begun n h s .due .full) 0) (begun n h s) refl (begun-held (sameConstants h s) n h s refl k)
+  ready-held k = reset-held (begun n h s) (begun-held n h s k)

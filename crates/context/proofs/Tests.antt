@@ -1,8 +1,8 @@
 -- Iarwennol. What the compressor's tests tell. Assume nothing.
 -- Used by the laws of a packet that is lost, of one that arrives, and of its parts.
 use Prim.Native.Nat.{ℕ, _≤_}
-use mathlib.Core.Path.{_≡_, refl, sym}
-use mathlib.Core.Bool.{Bool, true, false, _&&_, _||_, true≢false, false≢true, and-eq-true-iff}
+use mathlib.Core.Path.{_≡_, refl, sym, ap}
+use mathlib.Core.Bool.{Bool, true, false, cond, _&&_, _||_, true≢false, false≢true, and-eq-true-iff}
 use native.Mathlib.Omega.{arith}
 use lib.Dec.{eqb, ltb}
 use borrow.Author.Tests.{eqb-true, ne-eqb, ltb-false}
@@ -12,6 +12,16 @@ use Rattle.context.specs.Field.{offPattern, isDue}
 use Rattle.context.specs.Compressor.{sameBit, sameConstants, mayAdopt, differences, repeatsId, repeatsTimestamp, adoptsId, adoptsTimestamp, anyDue}
 use Rattle.context.specs.declared.compressor.CompressorContext.{CompressorContext}
 use Rattle.context.specs.declared.step.DueNow.{DueNow}
+
+---- cond
+
+-- what holds of both choices holds of the one taken
+pub cond-when : {A : Type 0} (P : A → Type 0) (b : Bool) (x y : A) → (b ≡ true → P x) → P y → P (cond b x y)
+cond-when P true x y f g = f refl
+cond-when P false x y f g = g
+
+pub cond-both : {A : Type 0} (P : A → Type 0) (b : Bool) (x y : A) → P x → P y → P (cond b x y)
+cond-both P b x y h k = cond-when P b x y (λ e. h) k
 
 ---- _||_
 
@@ -85,13 +95,16 @@ module _ (h : Header) (c : CompressorContext) where
   adoptsTimestamp-coded e = timestamp-adopted e .1
 
   -- and never by a full header
+  mayAdopt-full : 1 ≤ c .due .full → mayAdopt c ≡ false
+  mayAdopt-full e = ap (λ (b : Bool). b && c .earlier .known) (ne-eqb (c .due .full) 0 (omega arith))
+
   pub adoptsId-full : 1 ≤ c .due .full → adoptsId h c ≡ false
   unfolding adoptsId
-  adoptsId-full e = rw (ne-eqb (c .due .full) 0 (omega arith))
+  adoptsId-full e = rw (mayAdopt-full e)
 
   pub adoptsTimestamp-full : 1 ≤ c .due .full → adoptsTimestamp h c ≡ false
   unfolding adoptsTimestamp
-  adoptsTimestamp-full e = rw (ne-eqb (c .due .full) 0 (omega arith))
+  adoptsTimestamp-full e = rw (mayAdopt-full e)
 
 ---- isDue, anyDue
 

@@ -97,9 +97,13 @@ sameConstants h c =
 unfoldable pub begun : ℕ → Header → CompressorContext → CompressorContext
 begun n h c = cond (sameConstants h c) c (started n c)
 
--- rules 9.4, 9.5: a request starts one too, unless full headers are due already or the context is empty
+-- rule 9.4: a request is skipped while full headers are due
+abbrev pub skips : CompressorContext → Bool
+skips c = ltb 0 (c .due .full)
+
+-- rules 9.4, 9.5: else it starts a run too, but for an empty context
 unfoldable pub startedUnlessDue : ℕ → CompressorContext → CompressorContext
-startedUnlessDue n c = cond (ltb 0 (c .due .full)) c (started n c)
+startedUnlessDue n c = cond (skips c) c (started n c)
 
 abbrev pub requestedBy : Usage → ℕ → CompressorContext → CompressorContext
 requestedBy Empty n c = c
