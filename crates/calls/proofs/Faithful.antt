@@ -71,8 +71,9 @@ module _ {P L B Q C D SA RA : Type 0} (n : ℕ) (ε : Ends P L B Q C D SA RA) (R
         Rel c j v s → Rel c j v (ε .compressor (ε .send s p b))
     pub loses : (c j : ℕ) (v : D) (s : C) (p : P) (b : B) (l : L) → ε .out (ε .send s p b) ≡ some l → isOn (ε .context l) c ≡ true →
         Rel c j v s → suc j ≤ n → Rel c (suc j) v (ε .compressor (ε .send s p b))
-    -- an arrival on another context, or a plain one, whatever becomes of it
-    pub passes : (c j : ℕ) (v : D) (s : C) (l : L) (b : B) → isOn (ε .context l) c ≡ false → Rel c j v s → Rel c j (ε .decompressor (ε .receive v l b)) s
+    -- a send on another context, or a plain one, that arrives, whatever becomes of it
+    pub passes : (c j : ℕ) (v : D) (s : C) (p : P) (b : B) (l : L) → ε .out (ε .send s p b) ≡ some l → isOn (ε .context l) c ≡ false → Rel c j v s →
+        (b′ : B) → Rel c j (ε .decompressor (ε .receive v l b′)) (ε .compressor (ε .send s p b))
     -- an arrival on c with room, and without; a plain one with room
     pub takes : (c j : ℕ) (v : D) (s : C) (p : P) (b : B) (l : L) → ε .out (ε .send s p b) ≡ some l → isOn (ε .context l) c ≡ true → Rel c j v s →
         (b′ : B) → ε .size p ≤ ε .room b′ → ε .Right p (ε .receive v l b′) × Rel c 0 (ε .decompressor (ε .receive v l b′)) (ε .compressor (ε .send s p b))
@@ -139,7 +140,7 @@ module _ {P L B Q C D SA RA : Type 0} (n : ℕ) (ε : Ends P L B Q C D SA RA) (R
         go true true h e k = let m = mark-lost (r .j) ar i _ es h k (r .runs) in
             record { j = suc (r .j); rel = laws .shorts c (r .j) v s p b l out h (r .rel) (m .0) b′ (ltb-true _ _ e); runs = m .1 }
         go true false h e k = record { j = 0; rel = laws .takes c (r .j) v s p b l out h (r .rel) b′ (ltb-false _ _ e) .1; runs = mark-kept (r .j) ar i _ es h k (r .runs) }
-        go false short h e k = record { j = r .j; rel = laws .passes c (r .j) v _ l b′ h (laws .others c (r .j) v s p b l out h (r .rel)); runs = mark-off (r .j) ar i _ es h (r .runs) }
+        go false short h e k = record { j = r .j; rel = laws .passes c (r .j) v s p b l out h (r .rel) b′; runs = mark-off (r .j) ar i _ es h (r .runs) }
 
     right-here : (b′ : B) (o : Option ℕ) → ε .context l ≡ o → concerns o c ≡ true → ltb (ε .room b′) (ε .size p) ≡ false → ε .Right p (ε .receive v l b′)
     right-here b′ none e h k = laws .plains c (r .j) v s p b l out e (r .rel) b′ (ltb-false _ _ k)
