@@ -10,7 +10,7 @@ use Rattle.packet.specs.declared.header.Header.{Header}
 use Rattle.context.specs.Field.{counted, nextSequence, nextGeneration}
 use Rattle.context.specs.Compressor.{resetDeltas, unrepeated, withDeltas, first, started, sameConstants, begun, skips, startedUnlessDue, requestedBy, requested, reset, adoptsTimestamp, judged, dueAfter, deltasAfter, moved, stepOf}
 use Rattle.context.specs.Range.{HeaderFits}
-use Rattle.context.specs.Sound.{soundLink, usedSound, unusedSound, soundCompressorBy, soundCompressor, emptyCompressor, zeroFlow, zeroIp, zeroRtp, zeroList, zeroDeltas, zeroEarlier, zeroDue, zeroLink}
+use Rattle.context.specs.Sound.{soundLink, usedSound, unusedSound, soundCompressorBy, soundCompressor, emptyCompressor, zeroList}
 use Rattle.context.specs.declared.kept.Link.{Link}
 use Rattle.context.specs.declared.compressor.Usage.{Usage}
 use Rattle.context.specs.declared.compressor.Usage.the-variants.{Empty, Live}
@@ -124,7 +124,7 @@ bounds-soundCompressor : (n : ℕ) (c : CompressorContext) → c .status ≡ Liv
 bounds-soundCompressor n c u b = soundCompressor-live n c u ∙ bounds-usedSound n c b
 
 pub sound-empty : (n : ℕ) → soundCompressor n emptyCompressor ≡ true
-unfolding soundCompressor soundCompressorBy emptyCompressor unusedSound zeroFlow zeroIp zeroRtp zeroList zeroDeltas zeroEarlier zeroDue zeroLink
+unfolding soundCompressor soundCompressorBy emptyCompressor unusedSound zeroList
 sound-empty n = refl
 
 first-live : (n : ℕ) (h : Header) (l : Link) → first n h l .status ≡ Live
