@@ -1,4 +1,3 @@
-use mathlib.Core.Path.{refl}
 use Rattle.context.specs.Sound.{emptyCompressor}
 use borrow.Author.Needs.{needs}
 use Rattle.soundness.proofs.compressor.empty_context.Statement.{statement}

@@ -1,4 +1,3 @@
-use mathlib.Core.Path.{refl}
 use Rattle.context.specs.Sound.{emptyDecompressor}
 use borrow.Author.Needs.{needs}
 use Rattle.soundness.proofs.decompressor.empty_context.Statement.{statement}
