@@ -8,7 +8,7 @@ use lib.Dec.{eqb}
 use Rattle.codes.specs.Difference.{hasCode}
 use Rattle.packet.specs.declared.header.Header.{Header}
 use Rattle.context.specs.Field.{counted, nextSequence, nextGeneration}
-use Rattle.context.specs.Compressor.{resetDeltas, unrepeated, withDeltas, first, started, sameConstants, begun, skips, startedUnlessDue, requestedBy, requested, reset, adoptsTimestamp, judged, dueAfter, deltasAfter, moved, stepOf}
+use Rattle.context.specs.Compressor.{resetDeltas, withKept, withDue, first, started, sameConstants, begun, skips, startedUnlessDue, requestedBy, requested, reset, adoptsTimestamp, judged, dueAfter, deltasAfter, moved, stepOf}
 use Rattle.context.specs.Range.{HeaderFits}
 use Rattle.context.specs.Sound.{soundLink, usedSound, unusedSound, soundCompressorBy, soundCompressor, emptyCompressor, zeroList}
 use Rattle.context.specs.declared.kept.Link.{Link}
@@ -79,7 +79,7 @@ begun-bounds n h c b = cond-both (λ (d : CompressorContext). UsedBounds n d) (s
 
 reset-bounds : (n : ℕ) (c : CompressorContext) → UsedBounds n c → UsedBounds n (reset c)
 unfolding reset
-reset-bounds n c b = let d = b .due in cond-both (λ (x : CompressorContext). UsedBounds n x) (eqb (c .due .full) 0) _ (withDeltas resetDeltas (unrepeated (c .due)) c) b (record {
+reset-bounds n c b = let d = b .due in cond-both (λ (x : CompressorContext). UsedBounds n x) (eqb (c .due .full) 0) _ (withKept resetDeltas (withDue (c .due .full) 0 0 (c .due)) (c .link) c) b (record {
   port = b .port;
   flags = b .flags;
   payload = b .payload;

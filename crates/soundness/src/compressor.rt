@@ -8,9 +8,6 @@ use context::compressor::Earlier;
 use context::compressor::Usage;
 use context::kept::Deltas;
 use context::kept::Link;
-use packet::header::Flow;
-use packet::header::Ip;
-use packet::header::Rtp;
 
 fn sound_due(n: u8, d: Due) -> bool
     requires { ⌜ n ≤ 14 ⌝ }
@@ -94,29 +91,15 @@ pub fn sound_context(n: u8, c: CompressorContext) -> bool
 pub fn empty_context() -> CompressorContext
     ensures { λ r. ⌜ r ≡ emptyCompressor ⌝ }
 {
+    let flow = shared::no_flow();
+    let ip = shared::no_ip();
+    let rtp = shared::no_rtp();
     let csrc = packet::csrc::no_list();
     CompressorContext {
         status: Usage::Empty,
-        flow: Flow {
-            source: 0,
-            destination: 0,
-            sport: 0,
-            dport: 0,
-            ssrc: 0,
-        },
-        ip: Ip {
-            tos: 0,
-            ttl: 0,
-            flags: 0,
-            id: 0,
-        },
-        rtp: Rtp {
-            padding: false,
-            extension: false,
-            payload: 0,
-            sequence: 0,
-            timestamp: 0,
-        },
+        flow: flow,
+        ip: ip,
+        rtp: rtp,
         csrc: csrc,
         blank: false,
         deltas: Deltas {

@@ -5,9 +5,6 @@ use context::decompressor::DecompressorContext;
 use context::decompressor::Status;
 use context::kept::Deltas;
 use context::kept::Link;
-use packet::header::Flow;
-use packet::header::Ip;
-use packet::header::Rtp;
 
 fn filled_sound(c: DecompressorContext) -> bool
     ensures { λ r. ⌜ r ≡ filledSound c ⌝ }
@@ -52,30 +49,16 @@ pub fn sound_context(c: DecompressorContext) -> bool
 pub fn empty_context() -> DecompressorContext
     ensures { λ r. ⌜ r ≡ emptyDecompressor ⌝ }
 {
+    let flow = shared::no_flow();
+    let ip = shared::no_ip();
+    let rtp = shared::no_rtp();
     let csrc = packet::csrc::no_list();
     DecompressorContext {
         status: Status::Empty,
         filled: false,
-        flow: Flow {
-            source: 0,
-            destination: 0,
-            sport: 0,
-            dport: 0,
-            ssrc: 0,
-        },
-        ip: Ip {
-            tos: 0,
-            ttl: 0,
-            flags: 0,
-            id: 0,
-        },
-        rtp: Rtp {
-            padding: false,
-            extension: false,
-            payload: 0,
-            sequence: 0,
-            timestamp: 0,
-        },
+        flow: flow,
+        ip: ip,
+        rtp: rtp,
         csrc: csrc,
         carried: false,
         marker: false,

@@ -1,6 +1,6 @@
 ghost use mathlib.Core.Path.{_≡_};
 ghost use lib.ListN.{drop};
-ghost use Rattle.context.specs.Sound.{zeros, soundList, soundLink, zeroFlow, zeroIp, zeroRtp, zeroList, zeroDeltas, zeroLink};
+ghost use Rattle.context.specs.Sound.{zeros, soundList, soundLink, zeroFlow, zeroIp, zeroRtp, zeroList, zeroDeltas, zeroLink, noFlow, noIp, noRtp};
 use context::kept::Deltas;
 use context::kept::Link;
 use packet::csrc::Csrc;
@@ -69,4 +69,39 @@ pub fn zero_link(l: Link) -> bool
     ensures { λ r. ⌜ r ≡ zeroLink l ⌝ }
 {
     (l.sequence == 0) & (l.generation == 0)
+}
+
+pub fn no_flow() -> Flow
+    ensures { λ r. ⌜ r ≡ noFlow ⌝ }
+{
+    Flow {
+        source: 0,
+        destination: 0,
+        sport: 0,
+        dport: 0,
+        ssrc: 0,
+    }
+}
+
+pub fn no_ip() -> Ip
+    ensures { λ r. ⌜ r ≡ noIp ⌝ }
+{
+    Ip {
+        tos: 0,
+        ttl: 0,
+        flags: 0,
+        id: 0,
+    }
+}
+
+pub fn no_rtp() -> Rtp
+    ensures { λ r. ⌜ r ≡ noRtp ⌝ }
+{
+    Rtp {
+        padding: false,
+        extension: false,
+        payload: 0,
+        sequence: 0,
+        timestamp: 0,
+    }
 }
