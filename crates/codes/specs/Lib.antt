@@ -1,2 +1,10 @@
 pub mod Difference
 pub mod DifferenceLaws
+pub mod Bytes
+pub mod BytesLaws
+pub mod Code
+pub mod CodeLaws
+pub mod Reading
+pub mod ReadingLaws
+pub mod RoundTrip
+pub mod Cases

@@ -1,0 +1,16 @@
+-- Iarwennol. Bits joined by | that have different places. Assumes nothing.
+-- Used by the proofs of shifted and pack.
+use Prim.Native.Nat.{ℕ, _+_, _*_, _^_, _<_}
+use mathlib.Core.Path.{_≡_, refl}
+use mathlib.Core.Bool.{Bool, true, false}
+use lib.Dec.{lit<}
+use mir.Val.{boolByte}
+use lib.Bits.{bitOr, or-shifted}
+
+pub or-place : (x a k b : ℕ) → x ≡ a * 2 ^ k → b < 2 ^ k → bitOr x b ≡ x + b
+or-place x a k b e h = rw e (or-shifted a k b h)
+
+-- a bool as a number is below 2
+pub bool-lt : (b : Bool) → boolByte b < 2
+bool-lt true = lit< tt
+bool-lt false = lit< tt

@@ -1,0 +1,32 @@
+-- Iarwennol. What it means to put bytes into an output (rule 3.5), and the bytes of some fields.
+-- Used by every function that writes: headers, links and the calls of both ends.
+use Prim.Native.Nat.{ℕ, _+_}
+use mathlib.Core.Path.{_≡_}
+use mathlib.Core.Bool.{Bool, cond}
+use mathlib.Core.List.{List, [], _∷_, _++_}
+use lib.ListN.{length, drop, take}
+use lib.Seq.{sets}
+use Rattle.codes.specs.Bytes.{bigEndian}
+use Rattle.packet.specs.declared.csrc.Csrc.{Csrc}
+
+-- bs was stored in the list before, from at on, which gave the list after; past is the place past it
+pub record Wrote (before after : List ℕ) (at past : ℕ) (bs : List ℕ) : Type 0 where
+  pub ends : past ≡ at + length bs
+  pub holds : after ≡ sets before at bs
+
+-- a list with bs at its front: the bytes after them stay (rule 3.5)
+abbrev pub fronted : List ℕ → List ℕ → List ℕ
+fronted l bs = bs ++ drop (length bs) l
+
+-- some bytes where they are wanted, else none
+abbrev pub optional : Bool → List ℕ → List ℕ
+optional wanted bs = cond wanted bs []
+
+-- the bytes of words of 32 bits
+abbrev pub words : List ℕ → List ℕ
+words [] = []
+words (w ∷ ws) = bigEndian 4 w ++ words ws
+
+-- the words of a CSRC list, as many as its count says
+abbrev pub listBytes : Csrc → List ℕ
+listBytes l = words (take (l .count) (l .words))

@@ -1,0 +1,14 @@
+use Rattle.codes.specs.Code.{codeOf}
+use borrow.Author.Needs.{needs}
+use Rattle.codes.proofs.code.code16.Statement.{statement}
+use Rattle.codes.proofs.code.code16.Tie as tie
+
+code-from-requires : tie.Need-code-from-requires
+code-from-requires c κs = search needs
+
+returns : tie.Need-returns
+unfolding codeOf
+returns c = c .code-from .ensures
+
+pub code16-spec : {M : Type 1} → statement M
+code16-spec = tie.close (tie.spec code-from-requires returns)
