@@ -1,9 +1,25 @@
 ghost use mathlib.Core.Path.{_≡_};
 ghost use Rattle.context.specs.Field.{counted};
-ghost use Rattle.context.specs.Compressor.{dueNow, anyDue, dueAfter};
+ghost use Rattle.context.specs.Compressor.{onlyFull, dueNow, anyDue, dueAfter};
 use context::compressor::Due;
 use context::step::DueNow;
 use context::step::Judged;
+
+// Nothing is due but full headers.
+pub fn only_full(n: u8) -> Due
+    ensures { λ r. ⌜ r ≡ onlyFull n ⌝ }
+{
+    Due {
+        full: n,
+        id: 0,
+        sequence: 0,
+        timestamp: 0,
+        payload: 0,
+        list: 0,
+        did: 0,
+        dts: 0,
+    }
+}
 
 pub fn due_now(d: Due, j: Judged) -> DueNow
     ensures { λ r. ⌜ r ≡ dueNow d j ⌝ }

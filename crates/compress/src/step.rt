@@ -7,7 +7,6 @@ use crate::judge;
 use crate::run;
 use crate::send;
 use context::compressor::CompressorContext;
-use context::compressor::Due;
 use context::compressor::Earlier;
 use context::compressor::Usage;
 use context::kept::Deltas;
@@ -95,6 +94,7 @@ fn first_context(n: u8, h: Header, link: Link) -> CompressorContext
     let rtp = h.rtp;
     let csrc = h.csrc;
     let sequence = next_sequence(link.sequence);
+    let due = due::only_full(n);
     CompressorContext {
         status: Usage::Live,
         flow: flow,
@@ -111,16 +111,7 @@ fn first_context(n: u8, h: Header, link: Link) -> CompressorContext
             id: 0,
             timestamp: 0,
         },
-        due: Due {
-            full: n,
-            id: 0,
-            sequence: 0,
-            timestamp: 0,
-            payload: 0,
-            list: 0,
-            did: 0,
-            dts: 0,
-        },
+        due: due,
         link: Link {
             sequence: sequence,
             generation: link.generation,
@@ -141,11 +132,8 @@ pub fn first_packet(n: u8, h: Header, link: Link) -> Step
         did: false,
         dts: false,
     };
-    let kept = Deltas {
-        id: 1,
-        timestamp: 0,
-    };
     let next = first_context(n, h, link);
+    let kept = next.deltas;
     let parts = send::carry(h, now, false, kept);
     Step {
         kind: Kind::FullHeader,

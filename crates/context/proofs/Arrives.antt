@@ -1,4 +1,5 @@
--- Iarwennol. A packet that arrives: it is accepted and rebuilt, and the relation holds with nothing lost. Assume nothing.
+-- Iarwennol. A packet that arrives.
+-- It is accepted and rebuilt, and the relation holds with nothing lost. Assumes nothing.
 -- Used by robustness over lists of calls (rule 10).
 use Prim.Native.Nat.{ℕ, suc, _-_, _≤_, _<_}
 use mathlib.Core.Path.{_≡_, refl, sym, ap, _∙_}

@@ -1,4 +1,5 @@
--- Iarwennol. Every step of the compressor leaves a sound context for a sound one. Assume nothing.
+-- Iarwennol. Soundness at the compressor.
+-- Every step leaves a sound context for a sound one. Assume nothing.
 -- Used by the soundness of the compressor's table after each call, and by the laws of a packet's parts.
 use Prim.Native.Nat.{ℕ, _+_, _%_, _≤_}
 use mathlib.Core.Path.{_≡_, refl, sym, ap, _∙_}

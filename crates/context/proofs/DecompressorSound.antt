@@ -1,4 +1,5 @@
--- Iarwennol. Every step of the decompressor leaves a sound context for a sound one. Assume nothing.
+-- Iarwennol. Soundness at the decompressor.
+-- Every step leaves a sound context for a sound one. Assume nothing.
 -- Used by the soundness of the decompressor's table after each call.
 use Prim.Native.Nat.{ℕ, _≤_}
 use mathlib.Core.Path.{_≡_, refl, sym, ap, _∙_}

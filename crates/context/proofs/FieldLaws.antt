@@ -1,5 +1,6 @@
--- Iarwennol. Laws of one changing field, each once over its width w. Assume nothing.
--- Used for ID, sequence and timestamp by the laws of a packet that is lost and of one that arrives.
+-- Iarwennol. Laws of one changing field.
+-- Each once over the width w. Assume nothing.
+-- Used for ID, sequence and timestamp where a packet is lost and where it arrives, and by the loops that make the steps.
 use Prim.Native.Nat.{ℕ, suc, _+_, _-_, _^_, _≤_, _<_}
 use mathlib.Core.Path.{_≡_, refl, sym, ap, _∙_}
 use mathlib.Core.Bool.{Bool, true, false, cond, false≢true}

@@ -1,4 +1,5 @@
--- Iarwennol. Laws of a test over a list, for a loop that goes over it from the front. Assume nothing.
+-- Iarwennol. Laws of a test over a list.
+-- One for each turn of a loop that goes over the list from the front. Assume nothing.
 -- Used by the loop over a CSRC list, and by the loops over the contexts of a table.
 use Prim.Native.Nat.{ℕ, _+_, _≤_, _<_}
 use mathlib.Core.Path.{_≡_}

@@ -1,4 +1,5 @@
--- Iarwennol. The compressor's rules for one context, in the order in which they act on a packet (rules 8 and 9.4). n: the repeats.
+-- Iarwennol. The compressor, one context.
+-- Its rules in the order in which they act on a packet (rules 8, 9.4, 9.5); n is the repeats.
 -- Used by compress, whose code equals them, and by the relation between the ends.
 use Prim.Native.Nat.{ℕ, _+_}
 use mathlib.Core.Bool.{Bool, true, false, cond, not, _&&_, _||_}

@@ -1,4 +1,5 @@
--- Iarwennol. The decompressor's rules for one context (rules 7, 3.1). n: the repeats; g: the gap; q: a packet's link sequence.
+-- Iarwennol. The decompressor, one context.
+-- Its rules in their order (rules 7, 3.1); n is the repeats, g the gap, q a packet's link sequence.
 -- Used by rebuild, whose code equals them, and by the relation between the ends.
 use Prim.Native.Nat.{ℕ, _+_}
 use mathlib.Core.Bool.{Bool, true, cond, not, _||_}

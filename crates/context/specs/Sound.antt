@@ -1,4 +1,5 @@
--- Iarwennol. Soundness of one context at each end (rules 2.3, 2.4), as tests. n: the repeats.
+-- Iarwennol. Soundness of one context at each end.
+-- Tests, one line for each field (rules 2.3, 2.4); n is the repeats.
 -- Used by soundness, whose code equals them, and by the soundness of the tables above.
 use Prim.Native.Nat.{ℕ, _+_, _%_}
 use mathlib.Core.Bool.{Bool, false, cond, not, _&&_}

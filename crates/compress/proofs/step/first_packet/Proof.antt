@@ -1,4 +1,4 @@
-use Rattle.context.specs.Compressor.{firstStep}
+use Rattle.context.specs.Compressor.{first, firstStep}
 use borrow.Author.Needs.{needs}
 use Rattle.compress.proofs.step.first_packet.Statement.{statement}
 use Rattle.compress.proofs.step.first_packet.Tie as tie
@@ -10,8 +10,8 @@ carry-requires : tie.Need-carry-requires
 carry-requires c κs = search needs
 
 returns : tie.Need-returns
-unfolding firstStep
-returns c = rw (c .carry .ensures, c .before .first-context .ensures)
+unfolding firstStep first
+returns c = rw (c .carry .ensures, c .before .before .first-context .ensures)
 
 pub first-packet-spec : {M : Type 1} → statement M
 first-packet-spec = tie.close (tie.spec first-context-requires carry-requires returns)
