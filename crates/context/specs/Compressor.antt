@@ -187,6 +187,12 @@ anyDue d = d .id || d .sequence || d .timestamp || d .payload || d .did || d .dt
 unfoldable pub kindOf : (full : ℕ) (any : Bool) → Kind
 kindOf full any = cond (ltb 0 full) FullHeader (cond any CompressedUdp CompressedRtp)
 
+-- rule 1.1: the link type beside the bytes
+abbrev pub typeOf : Kind → ℕ
+typeOf FullHeader = 1
+typeOf CompressedUdp = 2
+typeOf CompressedRtp = 3
+
 -- rule 8.8: every CU has the list
 unfoldable pub listIf : Bool → Csrc → Csrc
 listIf any l = cond any l noList
