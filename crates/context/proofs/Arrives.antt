@@ -1,4 +1,5 @@
--- Iarwennol. A packet that arrives: it is accepted and rebuilt, and the relation holds with nothing lost. Assume nothing.
+-- Iarwennol. A packet that arrives.
+-- It is accepted and rebuilt, and the relation holds with nothing lost. Assumes nothing.
 -- Used by robustness over lists of calls (rule 10).
 use Prim.Native.Nat.{ℕ, suc, _-_, _≤_, _<_}
 use mathlib.Core.Path.{_≡_, refl, sym, ap, _∙_}
@@ -213,13 +214,31 @@ module _ (n j : ℕ) (v : DecompressorContext) (h : Header) (c : CompressorConte
 
 ---- stepOf
 
-module _ (n j : ℕ) (v : DecompressorContext) (h : Header) (s : CompressorContext) (fits : HeaderFits h) (flow : h .flow ≡ s .flow) (r : Related n j v s) where
-  arrives-full : 1 ≤ begun n h s .due .full → Arrives n v h (stepOf n h s)
-  unfolding stepOf
-  arrives-full f =
-      full-arrives n v h (reset (begun n h s)) fits (ready-held n h s (r .held)) (flow ∙ sym (ready-kept n h s .flow))
-      (rw (reset-full (begun n h s)) f) (reset-running (begun n h s) f)
+-- while full headers are due, whatever the decompressor has there
+full-step : (n : ℕ) (v : DecompressorContext) (h : Header) (s : CompressorContext) → HeaderFits h → Held s → h .flow ≡ s .flow →
+    1 ≤ begun n h s .due .full → Arrives n v h (stepOf n h s)
+unfolding stepOf
+full-step n v h s fits held flow f =
+    full-arrives n v h (reset (begun n h s)) fits (ready-held n h s held) (flow ∙ sym (ready-kept n h s .flow))
+    (rw (reset-full (begun n h s)) f) (reset-running (begun n h s) f)
 
+full-kind : (due any : Bool) → cond due FullHeader (cond any CompressedUdp CompressedRtp) ≡ FullHeader → due ≡ true
+full-kind true any e = refl
+full-kind false true e = absurd (false≢true (ap isFull e))
+full-kind false false e = absurd (false≢true (ap isFull e))
+
+full-due : (n : ℕ) (h : Header) (s : CompressorContext) → stepOf n h s .kind ≡ FullHeader → 1 ≤ begun n h s .due .full
+unfolding stepOf sentWith kindOf
+full-due n h s e =
+    let c = reset (begun n h s) in
+    rw (reset-full (begun n h s)) at (ltb-true 0 (c .due .full) (full-kind (ltb 0 (c .due .full)) (anyDue (dueNow (c .due) (judged h c))) e))
+
+-- a full header arrives, whatever the decompressor has there
+pub related-full : (n : ℕ) (v : DecompressorContext) (h : Header) (s : CompressorContext) → HeaderFits h → Held s → h .flow ≡ s .flow →
+    stepOf n h s .kind ≡ FullHeader → Arrives n v h (stepOf n h s)
+related-full n v h s fits held flow e = full-step n v h s fits held flow (full-due n h s e)
+
+module _ (n j : ℕ) (v : DecompressorContext) (h : Header) (s : CompressorContext) (fits : HeaderFits h) (flow : h .flow ≡ s .flow) (r : Related n j v s) where
   arrives-part : s .status ≡ usage.Live → n ≤ 14 → sameConstants h s ≡ true → s .due .full ≡ 0 → Arrives n v h (stepOf n h s)
   unfolding stepOf
   arrives-part u most e z =
@@ -227,10 +246,10 @@ module _ (n j : ℕ) (v : DecompressorContext) (h : Header) (s : CompressorConte
       rw (ready-same n h s e (m .running)) (part-arrives n j v h s fits (r .held) (r .few) flow (same-constants h s e) m most z)
 
   arrives-changed : sameConstants h s ≡ false → Arrives n v h (stepOf n h s)
-  arrives-changed e = arrives-full (rw (begun-started n h s e) (omega (arith, started-full n s)))
+  arrives-changed e = full-step n v h s fits (r .held) flow (rw (begun-started n h s e) (omega (arith, started-full n s)))
 
   arrives-due : sameConstants h s ≡ true → ltb 0 (s .due .full) ≡ true → Arrives n v h (stepOf n h s)
-  arrives-due e d = arrives-full (rw (begun-same n h s e) (ltb-true 0 (s .due .full) d))
+  arrives-due e d = full-step n v h s fits (r .held) flow (rw (begun-same n h s e) (ltb-true 0 (s .due .full) d))
 
   none-due : ltb 0 (s .due .full) ≡ false → s .due .full ≡ 0
   none-due d = let k = ltb-false 0 (s .due .full) d in omega arith

@@ -1,4 +1,5 @@
--- Iarwennol. Every step of the compressor leaves a sound context for a sound one. Assume nothing.
+-- Iarwennol. Soundness at the compressor.
+-- Every step leaves a sound context for a sound one. Assume nothing.
 -- Used by the soundness of the compressor's table after each call, and by the laws of a packet's parts.
 use Prim.Native.Nat.{ℕ, _+_, _%_, _≤_}
 use mathlib.Core.Path.{_≡_, refl, sym, ap, _∙_}
@@ -8,9 +9,9 @@ use lib.Dec.{eqb}
 use Rattle.codes.specs.Difference.{hasCode}
 use Rattle.packet.specs.declared.header.Header.{Header}
 use Rattle.context.specs.Field.{counted, nextSequence, nextGeneration}
-use Rattle.context.specs.Compressor.{resetDeltas, unrepeated, withDeltas, first, started, sameConstants, begun, skips, startedUnlessDue, requestedBy, requested, reset, adoptsTimestamp, judged, dueAfter, deltasAfter, moved, stepOf}
+use Rattle.context.specs.Compressor.{resetDeltas, withKept, withDue, first, started, sameConstants, begun, skips, startedUnlessDue, requestedBy, requested, reset, adoptsTimestamp, judged, dueAfter, deltasAfter, moved, stepOf}
 use Rattle.context.specs.Range.{HeaderFits}
-use Rattle.context.specs.Sound.{soundLink, usedSound, unusedSound, soundCompressorBy, soundCompressor, emptyCompressor, zeroFlow, zeroIp, zeroRtp, zeroList, zeroDeltas, zeroEarlier, zeroDue, zeroLink}
+use Rattle.context.specs.Sound.{soundLink, usedSound, unusedSound, soundCompressorBy, soundCompressor, emptyCompressor, zeroList}
 use Rattle.context.specs.declared.kept.Link.{Link}
 use Rattle.context.specs.declared.compressor.Usage.{Usage}
 use Rattle.context.specs.declared.compressor.Usage.the-variants.{Empty, Live}
@@ -79,7 +80,7 @@ begun-bounds n h c b = cond-both (λ (d : CompressorContext). UsedBounds n d) (s
 
 reset-bounds : (n : ℕ) (c : CompressorContext) → UsedBounds n c → UsedBounds n (reset c)
 unfolding reset
-reset-bounds n c b = let d = b .due in cond-both (λ (x : CompressorContext). UsedBounds n x) (eqb (c .due .full) 0) _ (withDeltas resetDeltas (unrepeated (c .due)) c) b (record {
+reset-bounds n c b = let d = b .due in cond-both (λ (x : CompressorContext). UsedBounds n x) (eqb (c .due .full) 0) _ (withKept resetDeltas (withDue (c .due .full) 0 0 (c .due)) (c .link) c) b (record {
   port = b .port;
   flags = b .flags;
   payload = b .payload;
@@ -124,7 +125,7 @@ bounds-soundCompressor : (n : ℕ) (c : CompressorContext) → c .status ≡ Liv
 bounds-soundCompressor n c u b = soundCompressor-live n c u ∙ bounds-usedSound n c b
 
 pub sound-empty : (n : ℕ) → soundCompressor n emptyCompressor ≡ true
-unfolding soundCompressor soundCompressorBy emptyCompressor unusedSound zeroFlow zeroIp zeroRtp zeroList zeroDeltas zeroEarlier zeroDue zeroLink
+unfolding soundCompressor soundCompressorBy emptyCompressor unusedSound zeroList
 sound-empty n = refl
 
 first-live : (n : ℕ) (h : Header) (l : Link) → first n h l .status ≡ Live

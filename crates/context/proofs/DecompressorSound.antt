@@ -1,4 +1,5 @@
--- Iarwennol. Every step of the decompressor leaves a sound context for a sound one. Assume nothing.
+-- Iarwennol. Soundness at the decompressor.
+-- Every step leaves a sound context for a sound one. Assume nothing.
 -- Used by the soundness of the decompressor's table after each call.
 use Prim.Native.Nat.{ℕ, _≤_}
 use mathlib.Core.Path.{_≡_, refl, sym, ap, _∙_}
@@ -11,7 +12,7 @@ use Rattle.packet.specs.declared.parts.Parts.{Parts}
 use Rattle.context.specs.Field.{gap}
 use Rattle.context.specs.Decompressor.{filled, outcomeOf, ipAfter, rtpAfter, deltasHeld, advanced, advancedWhole, broke, settled, applied, appliedWhole}
 use Rattle.context.specs.Range.{HeaderFits, PartsSound, WholeSound}
-use Rattle.context.specs.Sound.{soundList, soundLink, filledSound, unfilledSound, soundDecompressorBy, soundDecompressor, emptyDecompressor, zeroFlow, zeroIp, zeroRtp, zeroList, zeroDeltas, zeroLink}
+use Rattle.context.specs.Sound.{soundList, soundLink, filledSound, unfilledSound, soundDecompressorBy, soundDecompressor, emptyDecompressor, zeroList}
 use Rattle.context.specs.declared.kept.Link.{Link}
 use Rattle.context.specs.declared.decompressor.Status.{Status}
 use Rattle.context.specs.declared.decompressor.Status.the-variants.{Empty, Live, Broken}
@@ -43,7 +44,7 @@ bounds-soundDecompressor c u f b = soundDecompressor-live c u ∙ filled-and (c 
 ---- emptyDecompressor, filled
 
 pub sound-none : soundDecompressor emptyDecompressor ≡ true
-unfolding soundDecompressor soundDecompressorBy emptyDecompressor unfilledSound zeroFlow zeroIp zeroRtp zeroList zeroDeltas zeroLink
+unfolding soundDecompressor soundDecompressorBy emptyDecompressor unfilledSound zeroList
 sound-none = refl
 
 pub sound-filled : (h : Header) (l : Link) → HeaderFits h → soundLink l ≡ true → soundDecompressor (filled h l) ≡ true

@@ -1,10 +1,12 @@
--- Iarwennol. Laws of one changing field, each once over its width w. Assume nothing.
--- Used for ID, sequence and timestamp by the laws of a packet that is lost and of one that arrives.
-use Prim.Native.Nat.{ℕ, suc, _-_, _^_, _≤_, _<_}
+-- Iarwennol. Laws of one changing field.
+-- Each once over the width w. Assume nothing.
+-- Used for ID, sequence and timestamp where a packet is lost and where it arrives, and by the loops that make the steps.
+use Prim.Native.Nat.{ℕ, suc, _+_, _-_, _^_, _≤_, _<_}
 use mathlib.Core.Path.{_≡_, refl, sym, ap, _∙_}
 use mathlib.Core.Bool.{Bool, true, false, cond, false≢true}
 use native.Mathlib.Omega.{arith}
 use native.Mathlib.Nat.{mod-lt}
+use native.Mathlib.Numerals.{add-one}
 use lib.Dec.{eqb}
 use lib.Pow.{pow-pos}
 use borrow.Author.Tests.{eqb-true, not-false}
@@ -27,6 +29,10 @@ unfolding offPattern
 offPattern-false w last delta x e = eqb-true (difference w last x) delta (not-false (eqb (difference w last x) delta) e)
 
 ---- steps
+
+-- one step more, for the loop that makes them
+pub steps-more : (w a d g : ℕ) → steps w a d (g + 1) ≡ sum w (steps w a d g) d
+steps-more w a d g = rw add-one
 
 -- the value after j steps of k, and one more on pattern
 pub steps-onward : (w a j k s x : ℕ) → s < 2 ^ w → x < 2 ^ w → s ≡ steps w a k j → difference w s x ≡ k → x ≡ steps w a k (suc j)

@@ -1,4 +1,5 @@
--- Iarwennol. Laws of the gap and of what becomes of a CU or CR. Assume nothing.
+-- Iarwennol. Laws of the gap.
+-- What becomes of a CU or CR, and what an accepted one tells. Assume nothing.
 -- Used by the law of a packet that arrives, and by the code, which makes g - 1 steps only of an accepted packet.
 use Prim.Native.Nat.{ℕ, zero, suc, _+_, _%_, _≤_, _<_}
 use mathlib.Core.Path.{_≡_, refl, sym, ap, _∙_}

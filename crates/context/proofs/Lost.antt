@@ -1,4 +1,5 @@
--- Iarwennol. A packet that is lost: the relation holds with one more lost. Assume nothing.
+-- Iarwennol. A packet that is lost.
+-- The relation holds with one more lost. Assumes nothing.
 -- Used by robustness over lists of calls (rule 10).
 use Prim.Native.Nat.{ℕ, suc, _+_, _-_, _^_, _≤_, _<_}
 use mathlib.Core.Path.{_≡_, refl, sym, ap, _∙_}

@@ -1,4 +1,5 @@
--- Iarwennol. The other steps of one context: its first packet, a request, a context that is empty. Assume nothing.
+-- Iarwennol. The other steps of one context.
+-- Its first packet, a request, a context that is empty. Assume nothing.
 -- Used by robustness over lists of calls (rule 10).
 use Prim.Native.Nat.{ℕ, suc, _≤_, _<_}
 use mathlib.Core.Path.{_≡_, refl}

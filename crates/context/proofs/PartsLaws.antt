@@ -1,5 +1,6 @@
--- Iarwennol. What a packet sent on a context carries: parts that the layouts have room for. Assume nothing.
--- Used where a packet's parts are written and read back.
+-- Iarwennol. What a packet on a context carries.
+-- Parts that the layouts have room for, and that leave the other end sound. Assume nothing.
+-- Used where parts are written and read back, and by robustness (rule 10).
 use Prim.Native.Nat.{ℕ, _^_, _<_}
 use mathlib.Core.Path.{_≡_, refl, sym}
 use mathlib.Core.Bool.{Bool, true, false, cond, true≢false}
@@ -11,8 +12,9 @@ use Rattle.codes.specs.Difference.{hasCode}
 use Rattle.packet.specs.Csrc.{noList}
 use Rattle.packet.specs.declared.csrc.Csrc.{Csrc}
 use Rattle.packet.specs.declared.header.Header.{Header}
+use Rattle.packet.specs.declared.parts.Parts.{Parts}
 use Rattle.context.specs.Compressor.{begun, reset, adoptsTimestamp, judged, dueNow, anyDue, kindOf, listIf, partsOf, deltasAfter, moved, sentWith, sentFrom, stepOf}
-use Rattle.context.specs.Range.{HeaderFits, Held, Sendable, PartsFit, Bare}
+use Rattle.context.specs.Range.{HeaderFits, Held, Sendable, PartsFit, PartsSound, Bare}
 use Rattle.context.specs.Sound.{soundList, soundLink, soundCompressor}
 use Rattle.context.specs.declared.compressor.Usage.the-variants.{Live}
 use Rattle.context.specs.declared.compressor.CompressorContext.{CompressorContext}
@@ -126,3 +128,9 @@ module _ (n : ℕ) (h : Header) (s : CompressorContext) where
       let none : anyDue now ≡ false = kind-rtp (ltb 0 (reset (begun n h s) .due .full)) (anyDue now) e in
       let d : NoneDue now = anyDue-false now none in
       record { id = d .id; sequence = d .sequence; timestamp = d .timestamp; payload = d .payload; did = d .did; dsn = refl; dts = d .dts; listed = none }
+
+---- PartsFit
+
+-- parts that can be written leave the decompressor's context sound
+pub fit-sound : (blank : Bool) (p : Parts) → PartsFit blank p → PartsSound p
+fit-sound blank p f = record { payload = λ e. omega (arith, f .payload .fits); dts = λ e. f .coded; list = λ e. f .list }

@@ -1,4 +1,5 @@
--- Iarwennol. Laws of what comes before a packet is judged: a run that starts, deltas that are reset. Assume nothing.
+-- Iarwennol. Laws of what comes before a packet is judged.
+-- A run that starts, deltas that are reset. Assume nothing.
 -- Used by the laws of a packet that is lost, of one that arrives, of its parts and of soundness.
 use Prim.Native.Nat.{ℕ, _≤_, _<_}
 use mathlib.Core.Path.{_≡_, refl, sym, ap, _∙_}

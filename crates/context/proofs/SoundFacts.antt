@@ -1,5 +1,6 @@
--- Iarwennol. What the tests of soundness tell, as bounds, and that the bounds are all they ask. Assume nothing.
--- Used by the laws that every step leaves a context sound, and by the crates above, whose code relies on these bounds.
+-- Iarwennol. Soundness as bounds.
+-- What the tests of soundness tell, and that the bounds are all they ask. Assume nothing.
+-- Used by the laws of sound steps, and by the crates above, whose code relies on these bounds.
 use Prim.Native.Nat.{ℕ, _+_, _%_, _≤_}
 use mathlib.Core.Path.{_≡_, refl}
 use mathlib.Core.Bool.{Bool, true, _&&_, and-eq-true-iff}

@@ -1,4 +1,5 @@
--- Iarwennol. What the compressor's tests tell. Assume nothing.
+-- Iarwennol. The compressor's tests.
+-- What each tells of the packet and its context. Assume nothing.
 -- Used by the laws of a packet that is lost, of one that arrives, and of its parts.
 use Prim.Native.Nat.{ℕ, _≤_}
 use mathlib.Core.Path.{_≡_, refl, sym, ap}

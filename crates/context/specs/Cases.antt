@@ -1,5 +1,6 @@
--- Iarwennol. Worked cases of both ends' rules for one context (rules 11 and 12.1), those above all that the relation does not see.
--- Used by no one: they hold the definitions to what was worked out by hand.
+-- Iarwennol. Worked cases of one context.
+-- Both ends' rules held to numbers worked out by hand (rules 11, 12.1), above all where the relation does not see a rule.
+-- Used by no definition.
 use Prim.Native.Nat.{ℕ}
 use mathlib.Core.Path.{_≡_, refl}
 use mathlib.Core.Bool.{Bool, true, false}

@@ -1,4 +1,5 @@
--- Iarwennol. The compressor's rules for one context, in the order in which they act on a packet (rules 8 and 9.4). n: the repeats.
+-- Iarwennol. The compressor, one context.
+-- Its rules in the order in which they act on a packet (rules 8, 9.4, 9.5); n is the repeats.
 -- Used by compress, whose code equals them, and by the relation between the ends.
 use Prim.Native.Nat.{ℕ, _+_}
 use mathlib.Core.Bool.{Bool, true, false, cond, not, _&&_, _||_}
@@ -50,35 +51,40 @@ first n h l = record {
 
 ---- A run starts
 
-abbrev pub withFull : ℕ → Due → Due
-withFull n d = record {
-  full = n;
-  id = d .id;
-  sequence = d .sequence;
-  timestamp = d .timestamp;
-  payload = d .payload;
-  list = d .list;
-  did = d .did;
-  dts = d .dts;
-}
-
-abbrev pub withRun : Due → Link → CompressorContext → CompressorContext
-withRun d l c = record {
+-- a context with other deltas, counters and link
+abbrev pub withKept : Deltas → Due → Link → CompressorContext → CompressorContext
+withKept e d l c = record {
   status = c .status;
   flow = c .flow;
   ip = c .ip;
   rtp = c .rtp;
   csrc = c .csrc;
   blank = c .blank;
-  deltas = c .deltas;
+  deltas = e;
   earlier = c .earlier;
   due = d;
   link = l;
 }
 
+-- counters with others for full headers and for both deltas
+abbrev pub withDue : (full did dts : ℕ) → Due → Due
+withDue n i t d = record {
+  full = n;
+  id = d .id;
+  sequence = d .sequence;
+  timestamp = d .timestamp;
+  payload = d .payload;
+  list = d .list;
+  did = i;
+  dts = t;
+}
+
+abbrev pub risen : Link → Link
+risen l = record { sequence = l .sequence; generation = nextGeneration (l .generation) }
+
 -- rule 8.3: n + 1 full headers are due, and the generation is one higher
 unfoldable pub started : ℕ → CompressorContext → CompressorContext
-started n c = withRun (withFull (n + 1) (c .due)) (record { sequence = c .link .sequence; generation = nextGeneration (c .link .generation) }) c
+started n c = withKept (c .deltas) (withDue (n + 1) (c .due .did) (c .due .dts) (c .due)) (risen (c .link)) c
 
 abbrev pub sameBit : Bool → Bool → Bool
 sameBit a b = cond a b (not b)
@@ -114,35 +120,9 @@ requested n c = requestedBy (c .status) n c
 
 ---- A full header resets the deltas
 
-abbrev pub unrepeated : Due → Due
-unrepeated d = record {
-  full = d .full;
-  id = d .id;
-  sequence = d .sequence;
-  timestamp = d .timestamp;
-  payload = d .payload;
-  list = d .list;
-  did = 0;
-  dts = 0;
-}
-
-abbrev pub withDeltas : Deltas → Due → CompressorContext → CompressorContext
-withDeltas e d c = record {
-  status = c .status;
-  flow = c .flow;
-  ip = c .ip;
-  rtp = c .rtp;
-  csrc = c .csrc;
-  blank = c .blank;
-  deltas = e;
-  earlier = c .earlier;
-  due = d;
-  link = c .link;
-}
-
 -- rule 8.4: before the packet is judged
 unfoldable pub reset : CompressorContext → CompressorContext
-reset c = cond (eqb (c .due .full) 0) c (withDeltas resetDeltas (unrepeated (c .due)) c)
+reset c = cond (eqb (c .due .full) 0) c (withKept resetDeltas (withDue (c .due .full) 0 0 (c .due)) (c .link) c)
 
 ---- The packet is judged
 
@@ -206,6 +186,12 @@ anyDue d = d .id || d .sequence || d .timestamp || d .payload || d .did || d .dt
 -- rules 8.2, 8.8: FH while full headers are due; else CU if anything is due; else CR
 unfoldable pub kindOf : (full : ℕ) (any : Bool) → Kind
 kindOf full any = cond (ltb 0 full) FullHeader (cond any CompressedUdp CompressedRtp)
+
+-- rule 1.1: the link type beside the bytes
+abbrev pub typeOf : Kind → ℕ
+typeOf FullHeader = 1
+typeOf CompressedUdp = 2
+typeOf CompressedRtp = 3
 
 -- rule 8.8: every CU has the list
 unfoldable pub listIf : Bool → Csrc → Csrc

@@ -1,4 +1,5 @@
--- Iarwennol. The decompressor's rules for one context (rules 7, 3.1). n: the repeats; g: the gap; q: a packet's link sequence.
+-- Iarwennol. The decompressor, one context.
+-- Its rules in their order (rules 7, 3.1); n is the repeats, g the gap, q a packet's link sequence.
 -- Used by rebuild, whose code equals them, and by the relation between the ends.
 use Prim.Native.Nat.{ℕ, _+_}
 use mathlib.Core.Bool.{Bool, true, cond, not, _||_}
@@ -12,6 +13,7 @@ use Rattle.context.specs.Field.{gap, movedOn}
 use Rattle.context.specs.Refusal.{numberOf}
 use Rattle.context.specs.declared.kept.Deltas.{Deltas}
 use Rattle.context.specs.declared.kept.Link.{Link}
+use Rattle.context.specs.declared.refusal.Refusal.{Refusal}
 use Rattle.context.specs.declared.refusal.Refusal.the-variants.{NotLive, OutOfStep}
 use Rattle.context.specs.declared.decompressor.Status.{Status}
 use Rattle.context.specs.declared.decompressor.Status.the-variants.{Empty, Live, Broken}
@@ -145,9 +147,12 @@ broke c = record {
 }
 
 -- rule 3.1: both refusals break the context
+abbrev pub refusedAs : Refusal → DecompressorContext → Applied
+refusedAs r c = record { outcome = Refused r; context = broke c }
+
 unfoldable pub settled : Outcome → (c next : DecompressorContext) → Applied
 settled Accepted c next = record { outcome = Accepted; context = next }
-settled (Refused r) c next = record { outcome = Refused r; context = broke c }
+settled (Refused r) c next = refusedAs r c
 
 unfoldable pub applied : (n q : ℕ) → DecompressorContext → Parts → Applied
 applied n q c p = settled (outcomeOf n q c) c (advanced (gap (c .link .sequence) q) q c p)

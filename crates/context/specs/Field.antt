@@ -1,4 +1,5 @@
--- Iarwennol. One changing field and the small numbers of a context, each rule once. w: the field's width; n: the repeats.
+-- Iarwennol. One changing field, and the small numbers of a context.
+-- Each rule once: w is the width of the field, n the repeats.
 -- Used by Compressor and Decompressor, and by the code of both ends.
 use Prim.Native.Nat.{ℕ, zero, suc, _+_, _-_, _%_}
 use mathlib.Core.Bool.{Bool, cond, not, _||_}

@@ -2,6 +2,8 @@ pub mod Refusal
 pub mod Field
 pub mod Compressor
 pub mod Decompressor
+pub mod All
+pub mod AllLaws
 pub mod Sound
 pub mod Range
 pub mod Relation

@@ -1,4 +1,5 @@
--- Iarwennol. What numbers a header, a context and the parts of a link packet hold: what their bytes and their types leave room for.
+-- Iarwennol. Ranges of numbers.
+-- What a header, a context and the parts of a link packet hold, as far as bytes and types leave room for it.
 -- Used as what the laws of the steps start from, and as what the link layouts may rely on.
 use Prim.Native.Nat.{ℕ, _^_, _<_, _≤_}
 use mathlib.Core.Path.{_≡_}

@@ -1,5 +1,6 @@
--- Iarwennol. The number of each refusal (rule 3.1).
--- Used by the answers of every call; 12 and 13 are kept for what is to come.
+-- Iarwennol. The refusals.
+-- The number that each has (rule 3.1); 12 and 13 are kept for what is to come.
+-- Used by the answers of every call.
 use Prim.Native.Nat.{ℕ}
 use Rattle.context.specs.declared.refusal.Refusal.{Refusal}
 use Rattle.context.specs.declared.refusal.Refusal.the-variants.{Unsound, BadLength, UnknownType, Cut, Forbidden, NoSuchContext, UnusedCode, NotLive, OutOfStep, TooLong, NoRoom}

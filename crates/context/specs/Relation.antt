@@ -1,4 +1,5 @@
--- Iarwennol. What holds between the two ends' contexts when j packets on them were lost since the last one accepted. n: the repeats.
+-- Iarwennol. The relation between the two ends' contexts.
+-- What holds when j packets on a context were lost since the last one accepted; n is the repeats.
 -- Used by the laws of each step in proofs/, and by robustness over lists of calls (rule 10).
 use Prim.Native.Nat.{ℕ, _+_, _%_, _≤_, _<_}
 use mathlib.Core.Path.{_≡_}

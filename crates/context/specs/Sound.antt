@@ -1,8 +1,9 @@
--- Iarwennol. Soundness of one context at each end (rules 2.3, 2.4), as tests. n: the repeats.
+-- Iarwennol. Soundness of one context at each end.
+-- Tests, one line for each field (rules 2.3, 2.4); n is the repeats.
 -- Used by soundness, whose code equals them, and by the soundness of the tables above.
 use Prim.Native.Nat.{ℕ, _+_, _%_}
-use mathlib.Core.Bool.{Bool, true, false, cond, not, _&&_}
-use mathlib.Core.List.{List, [], _∷_}
+use mathlib.Core.Bool.{Bool, false, cond, not, _&&_}
+use mathlib.Core.List.{List}
 use lib.Dec.{eqb, leb}
 use lib.ListN.{drop}
 use Rattle.codes.specs.Difference.{hasCode}
@@ -11,6 +12,7 @@ use Rattle.packet.specs.declared.csrc.Csrc.{Csrc}
 use Rattle.packet.specs.declared.header.Flow.{Flow}
 use Rattle.packet.specs.declared.header.Ip.{Ip}
 use Rattle.packet.specs.declared.header.Rtp.{Rtp}
+use Rattle.context.specs.All.{all}
 use Rattle.context.specs.declared.kept.Deltas.{Deltas}
 use Rattle.context.specs.declared.kept.Link.{Link}
 use Rattle.context.specs.declared.compressor.Usage.{Usage}
@@ -24,9 +26,11 @@ use Rattle.context.specs.declared.decompressor.DecompressorContext.{Deco
 
 ---- What the rules can put into a field (rule 2.3)
 
+abbrev pub isZero : ℕ → Bool
+isZero x = eqb x 0
+
 abbrev pub zeros : List ℕ → Bool
-zeros [] = true
-zeros (x ∷ xs) = eqb x 0 && zeros xs
+zeros l = all isZero l
 
 unfoldable pub soundList : Csrc → Bool
 soundList l =
@@ -51,7 +55,7 @@ soundDue n d =
 
 ---- 0 in every field (rule 2.4)
 
-unfoldable pub zeroFlow : Flow → Bool
+abbrev pub zeroFlow : Flow → Bool
 zeroFlow f =
     eqb (f .source) 0
     && eqb (f .destination) 0
@@ -59,14 +63,14 @@ zeroFlow f =
     && eqb (f .dport) 0
     && eqb (f .ssrc) 0
 
-unfoldable pub zeroIp : Ip → Bool
+abbrev pub zeroIp : Ip → Bool
 zeroIp i =
     eqb (i .tos) 0
     && eqb (i .ttl) 0
     && eqb (i .flags) 0
     && eqb (i .id) 0
 
-unfoldable pub zeroRtp : Rtp → Bool
+abbrev pub zeroRtp : Rtp → Bool
 zeroRtp r =
     not (r .padding)
     && not (r .extension)
@@ -79,18 +83,18 @@ zeroList l =
     eqb (l .count) 0
     && zeros (l .words)
 
-unfoldable pub zeroDeltas : Deltas → Bool
+abbrev pub zeroDeltas : Deltas → Bool
 zeroDeltas d =
     eqb (d .id) 0
     && eqb (d .timestamp) 0
 
-unfoldable pub zeroEarlier : Earlier → Bool
+abbrev pub zeroEarlier : Earlier → Bool
 zeroEarlier e =
     not (e .known)
     && eqb (e .id) 0
     && eqb (e .timestamp) 0
 
-unfoldable pub zeroDue : Due → Bool
+abbrev pub zeroDue : Due → Bool
 zeroDue d =
     eqb (d .full) 0
     && eqb (d .id) 0
@@ -101,7 +105,7 @@ zeroDue d =
     && eqb (d .did) 0
     && eqb (d .dts) 0
 
-unfoldable pub zeroLink : Link → Bool
+abbrev pub zeroLink : Link → Bool
 zeroLink l =
     eqb (l .sequence) 0
     && eqb (l .generation) 0

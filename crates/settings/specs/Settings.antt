@@ -1,4 +1,5 @@
--- Iarwennol. The settings of both ends and what an opening makes of two numbers.
+-- Iarwennol. The settings of both ends.
+-- What an opening makes of two numbers, and when settings are sound (rule 1.3).
 -- Used by the openings of both tables and by their soundness.
 use Prim.Native.Nat.{ℕ}
 use mathlib.Core.Bool.{Bool, cond, _&&_}

@@ -1,4 +1,5 @@
--- Iarwennol. Laws of the settings. Assume nothing.
+-- Iarwennol. Laws of the settings.
+-- The bounds that settings in range have. Assume nothing.
 -- Used by the proof of open, and by the tables, whose code may rely on these bounds.
 use Prim.Native.Nat.{ℕ, _≤_}
 use mathlib.Core.Path.{_≡_}

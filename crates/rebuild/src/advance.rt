@@ -1,0 +1,109 @@
+ghost use mathlib.Core.Path.{_≡_};
+ghost use mathlib.Core.Bool.{cond};
+ghost use Prim.Native.Nat.{_≤_};
+ghost use Rattle.context.specs.Decompressor.{ipAfter, rtpAfter, deltasHeld, advanced, advancedWhole};
+use crate::steps;
+use context::decompressor::DecompressorContext;
+use context::kept::Deltas;
+use packet::csrc::Csrc;
+use packet::header::Ip;
+use packet::header::Rtp;
+use packet::header::RtpHeader;
+use packet::parts::Parts;
+use packet::sent::Sent16;
+
+fn move_ip(g: u8, c: DecompressorContext, p: Parts) -> Ip
+    requires { ⌜ 1 ≤ g ⌝ }
+    ensures { λ r. ⌜ r ≡ ipAfter g c p ⌝ }
+{
+    let d = p.did;
+    let whole = p.id;
+    let id = steps::move16(g, c.ip.id, c.deltas.id, d, whole);
+    let mut ip = c.ip;
+    ip.id = id;
+    ip
+}
+
+fn move_rtp(g: u8, c: DecompressorContext, p: Parts) -> Rtp
+    requires { ⌜ 1 ≤ g ⌝ }
+    ensures { λ r. ⌜ r ≡ rtpAfter g c p ⌝ }
+{
+    let dsn = p.dsn;
+    let dts = p.dts;
+    let whole = p.sequence;
+    let late = p.timestamp;
+    let sequence = steps::move16(g, c.rtp.sequence, 1, dsn, whole);
+    let timestamp = steps::move32(g, c.rtp.timestamp, c.deltas.timestamp, dts, late);
+    let payload = packet::sent::or_kept8(p.payload.sent, p.payload.value, c.rtp.payload);
+    let mut rtp = c.rtp;
+    rtp.payload = payload;
+    rtp.sequence = sequence;
+    rtp.timestamp = timestamp;
+    rtp
+}
+
+fn hold_deltas(kept: Deltas, p: Parts) -> Deltas
+    ensures { λ r. ⌜ r ≡ deltasHeld kept p ⌝ }
+{
+    let id = packet::sent::or_kept16(p.did.sent, p.did.value, kept.id);
+    let timestamp = packet::sent::or_kept32(p.dts.sent, p.dts.value, kept.timestamp);
+    Deltas {
+        id: id,
+        timestamp: timestamp,
+    }
+}
+
+fn replace_list(listed: bool, new: Csrc, old: Csrc) -> Csrc
+    ensures { λ r. ⌜ r ≡ cond listed new old ⌝ }
+{
+    if listed { new } else { old }
+}
+
+// The context after a CR, or a CU with F, that is g steps on.
+pub fn advance(g: u8, q: u8, c: DecompressorContext, p: Parts) -> DecompressorContext
+    requires { ⌜ 1 ≤ g ⌝ }
+    ensures { λ r. ⌜ r ≡ advanced g q c p ⌝ }
+{
+    let kept = c.deltas;
+    let old = c.csrc;
+    let new = p.csrc;
+    let ip = move_ip(g, c, p);
+    let rtp = move_rtp(g, c, p);
+    let csrc = replace_list(p.listed, new, old);
+    let deltas = hold_deltas(kept, p);
+    let mut d = c;
+    d.ip = ip;
+    d.rtp = rtp;
+    d.csrc = csrc;
+    d.marker = p.marker;
+    d.deltas = deltas;
+    d.link.sequence = q;
+    d
+}
+
+// The context after a CU without F: the RTP header is taken whole.
+pub fn advance_whole(
+    g: u8,
+    q: u8,
+    c: DecompressorContext,
+    p: Parts,
+    w: RtpHeader,
+) -> DecompressorContext
+    requires { ⌜ 1 ≤ g ⌝ }
+    ensures { λ r. ⌜ r ≡ advancedWhole g q c p w ⌝ }
+{
+    let kept = c.deltas;
+    let rtp = w.rtp;
+    let csrc = w.csrc;
+    let ip = move_ip(g, c, p);
+    let deltas = hold_deltas(kept, p);
+    let mut d = c;
+    d.flow.ssrc = w.ssrc;
+    d.ip = ip;
+    d.rtp = rtp;
+    d.csrc = csrc;
+    d.marker = w.marker;
+    d.deltas = deltas;
+    d.link.sequence = q;
+    d
+}
