@@ -6,7 +6,7 @@ use mathlib.Core.List.{List, [], _∷_, _++_}
 use native.Mathlib.Nat.{add-assoc, add-zero}
 use native.Mathlib.Numerals.{add-one}
 use native.Mathlib.Omega.{arith}
-use lib.ListN.{length, getD, drop, drop-of-length-le}
+use lib.ListN.{length, getD, take, drop, drop-of-length-le}
 use lib.Seq.{drop-cons}
 use Rattle.codes.specs.Bytes.{AllBytes}
 use Rattle.codes.specs.Bytes as bytes
@@ -99,13 +99,20 @@ allWords-wordsOf (bytes.more {b = a} h (bytes.more {b = b} k r)) = more {w = a *
 
 -- two bytes further, at an odd byte, and past the last, for the loop that adds
 module _ (s : List ℕ) (i : ℕ) where
-  pub wordsOf-drop : i + 2 ≤ length s → wordsOf (drop i s) ≡ wordAt s i ∷ wordsOf (drop (i + 2) s)
-  wordsOf-drop h =
+  drop-two : i + 2 ≤ length s → drop i s ≡ byteAt s i ∷ byteAt s (i + 1) ∷ drop (i + 2) s
+  drop-two h =
       let two : i + 2 ≡ suc (i + 1) = omega arith in
       rw (drop-cons s i 0 (omega arith), ← add-one, drop-cons s (i + 1) 0 (omega arith), two)
+
+  pub wordsOf-drop : i + 2 ≤ length s → wordsOf (drop i s) ≡ wordAt s i ∷ wordsOf (drop (i + 2) s)
+  wordsOf-drop h = rw (drop-two h)
 
   pub wordsOf-odd : length s ≡ i + 1 → wordsOf (drop i s) ≡ byteAt s i * 256 ∷ []
   wordsOf-odd h = rw (drop-cons s i 0 (omega arith), drop-of-length-le s {i = suc i} (omega arith))
 
   pub wordsOf-end : length s ≤ i → wordsOf (drop i s) ≡ []
   wordsOf-end h = rw (drop-of-length-le s h)
+
+  -- the first word of a part, for sums over parts of a packet
+  pub wordsOf-part : (n : ℕ) → i + 2 ≤ length s → wordsOf (take (suc (suc n)) (drop i s)) ≡ wordAt s i ∷ wordsOf (take n (drop (i + 2) s))
+  wordsOf-part n h = rw (drop-two h)
