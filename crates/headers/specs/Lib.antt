@@ -8,3 +8,4 @@ pub mod CompressibleLaws
 pub mod ChecksumLaws
 pub mod HeaderLaws
 pub mod RoundTrip
+pub mod Cases
