@@ -107,8 +107,8 @@ module _ (s : List ℕ) (i : ℕ) where
   pub wordsOf-drop : i + 2 ≤ length s → wordsOf (drop i s) ≡ wordAt s i ∷ wordsOf (drop (i + 2) s)
   wordsOf-drop h = rw (drop-two h)
 
-  pub wordsOf-odd : length s ≡ i + 1 → wordsOf (drop i s) ≡ byteAt s i * 256 ∷ []
-  wordsOf-odd h = rw (drop-cons s i 0 (omega arith), drop-of-length-le s {i = suc i} (omega arith))
+  pub wordsOf-odd : (w : ℕ) → w ≡ byteAt s i * 256 → length s ≡ i + 1 → wordsOf (drop i s) ≡ w ∷ []
+  wordsOf-odd w e h = rw (e, drop-cons s i 0 (omega arith), drop-of-length-le s {i = suc i} (omega arith))
 
   pub wordsOf-end : length s ≤ i → wordsOf (drop i s) ≡ []
   wordsOf-end h = rw (drop-of-length-le s h)

@@ -58,7 +58,15 @@ ipChecksumOf-parts p total h =
       wordsOf-part p 18 0 (omega arith),
     )
 
+pub ipChecksumOf-lt : (p : List ℕ) (total : ℕ) → ipChecksumOf p total < 2 ^ 16
+unfolding ipChecksumOf
+ipChecksumOf-lt p total = omega arith
+
 ---- ipChecksum
+
+pub ipChecksum-lt : (h : Header) (total : ℕ) → ipChecksum h total < 2 ^ 16
+unfolding ipChecksum
+ipChecksum-lt h total = omega arith
 
 pub ipChecksumOf-headerBytes : (l u k : ℕ) (h : Header) (rest : List ℕ) (total : ℕ) → HeaderInRange h
     → ipChecksumOf (headerBytes l u k h ++ rest) total ≡ ipChecksum h total

@@ -95,7 +95,10 @@ module _ (p : List ℕ) where
         list = leb-true (12 + 4 * countAt p 28) (length p - 28) (and-r (n && f && t && k && u && d) l e);
       }
 
+  pub headerSize-headerOf : headerSize (headerOf p) ≡ 40 + 4 * countAt p 28
+  unfolding headerOf rtpAt
+  headerSize-headerOf = refl
+
   -- the whole header stands in the packet
   pub compressible-size : compressible p ≡ true → headerSize (headerOf p) ≤ length p
-  unfolding headerOf rtpAt
-  compressible-size e = let c = compressible-true e in omega arith
+  compressible-size e = let c = compressible-true e in rw headerSize-headerOf (omega arith)

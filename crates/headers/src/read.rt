@@ -1,7 +1,7 @@
 ghost use mathlib.Core.Path.{_≡_};
 ghost use Prim.Native.Nat.{_≤_, _<_, _+_, _*_};
 ghost use lib.ListN.{length};
-ghost use Rattle.headers.specs.Header.{listAt, countAt, rtpAt, flowOf, ipOf, headerOf};
+ghost use Rattle.headers.specs.Header.{listAt, countAt, rtpAt, flowOf, ipOf, headerOf, headerSize};
 use crate::place::long_at;
 use crate::place::word_at;
 use bytes::flags::split;
@@ -95,4 +95,12 @@ pub fn read_header(p: &[u8]) -> Header
         marker: r.marker,
         checksum: word_at(p, 26),
     }
+}
+
+// How many bytes a header has: where the rest of its packet begins.
+pub fn header_size(h: Header) -> usize
+    ensures { λ r. ⌜ r ≡ headerSize h ⌝ }
+{
+    let list = h.csrc;
+    40 + 4 * (list.count as usize)
 }

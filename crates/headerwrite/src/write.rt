@@ -16,15 +16,6 @@ use bytes::put::put16;
 use bytes::put::put32;
 use packet::header::Header;
 
-// How many bytes a header has.
-pub fn header_size(h: Header) -> usize
-    requires { ⌜ Narrow h ⌝ }
-    ensures { λ r. ⌜ (r ≡ headerSize h) × (r ≤ 100) ⌝ }
-{
-    let list = h.csrc;
-    40 + 4 * (list.count as usize)
-}
-
 fn put_ip_front(out: &mut [u8], at: usize, h: Header, size: u16) -> usize
     requires { ⌜ Narrow h × (at + 8 ≤ length (now out)) ⌝ }
     ensures { λ r. ⌜ (r ≡ at + 8) × Wrote (now (out .entry)) (now (out .exit)) at r (ipFront size h) ⌝ }

@@ -1,4 +1,3 @@
-use native.Mathlib.Nat.{add-zero}
 use Prim.Native.Nat.{_≤_, _-_, _+_}
 use mathlib.Core.Path.{_≡_, sym, _∙_}
 use native.Mathlib.Omega.{arith}
@@ -59,7 +58,7 @@ add-requires-2 c κs = search needs
 returns : tie.Need-returns Inv-loop μ-loop
 returns c = let a = c .before .before .before .before .before .before .before .args in
     let l = c .before .before .before .before .before .loop in
-    rw (c .add2 .ensures, c .before .be162 .ensures, add-zero) (sym (l .inv .1 ∙ rw (wordsOf-odd (a .part .now) (l .i) (omega arith))))
+    rw (c .add2 .ensures) (sym (l .inv .1 ∙ rw (wordsOf-odd (a .part .now) (l .i) (c .before .be162 .result) (omega arith) (omega arith))))
 
 returns-2 : tie.Need-returns-2 Inv-loop μ-loop
 returns-2 c = let a = c .before .before .before .before .args in

@@ -10,7 +10,7 @@ use Rattle.headers.proofs.form.is_compressible.Tie as tie
 
 returns : tie.Need-returns
 unfolding compressible
-returns c = let a = c .before .before .args in rw (lt-leb 40 (length (a .p .now)) (c .if1 .taken))
+returns c = let a = c .before .before .args in rw (lt-leb 40 (length (a .p .now)) (omega arith))
 
 word-at-requires : tie.Need-word-at-requires
 word-at-requires c κs = search needs
