@@ -1,12 +1,12 @@
 -- Iarwennol. Laws of the ones' complement sum. Assume nothing.
 -- Used by the proof of sum, by the checksums (headers), and wherever words are added in another order or folded at the end.
 use Prim.Native.Nat.{ℕ, zero, suc, _+_, _*_, _/_, _%_, _≤_, _<_}
-use mathlib.Core.Path.{_≡_, refl, sym, ap, _∙_}
+use mathlib.Core.Path.{_≡_, refl, sym, _∙_}
 use mathlib.Core.List.{List, [], _∷_, _++_}
 use native.Mathlib.Nat.{add-assoc, add-zero}
 use native.Mathlib.Numerals.{add-one}
 use native.Mathlib.Omega.{arith}
-use lib.ListN.{length, getD, take, drop, drop-of-length-le}
+use lib.ListN.{length, take, drop, drop-of-length-le}
 use lib.Seq.{drop-cons}
 use Rattle.codes.specs.Bytes.{AllBytes}
 use Rattle.codes.specs.Bytes as bytes

@@ -1,7 +1,7 @@
 -- Iarwennol. Laws of the IP checksum: from the bytes or from the fields, it is the same. Assume nothing.
 -- Used by the round trip of a compressible packet, and by the full header (links), whose checksum is that of its packet.
-use Prim.Native.Nat.{ℕ, _+_, _-_, _*_, _/_, _%_, _^_, _≤_, _<_}
-use mathlib.Core.Path.{_≡_, refl, sym, ap, _∙_}
+use Prim.Native.Nat.{ℕ, _+_, _*_, _/_, _%_, _^_, _≤_, _<_}
+use mathlib.Core.Path.{_≡_}
 use mathlib.Core.Bool.{true}
 use mathlib.Core.List.{List, [], _∷_, _++_}
 use native.Mathlib.Omega.{arith}

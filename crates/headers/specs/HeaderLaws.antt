@@ -7,18 +7,15 @@ use mathlib.Core.List.{List, [], _∷_, _++_}
 use native.Mathlib.Omega.{arith}
 use lib.Dec.{eqb}
 use lib.ListN.{length, take, drop, replicate}
-use Rattle.codes.specs.Bytes.{AllBytes, none, more, bigEndian}
+use Rattle.codes.specs.Bytes.{AllBytes, more, bigEndian}
 use Rattle.codes.specs.BytesLaws.{allBytes-append, allBytes-bigEndian}
-use Rattle.codes.specs.Reading.{byteAt, wordAt, longAt}
-use Rattle.packet.specs.declared.csrc.Csrc.{Csrc}
+use Rattle.codes.specs.Reading.{byteAt, wordAt}
 use Rattle.packet.specs.declared.header.Header.{Header}
-use Rattle.packet.specs.declared.header.RtpHeader.{RtpHeader}
-use Rattle.bytes.specs.declared.flags.Flags.{Flags}
 use Rattle.bytes.specs.Flags.{bitAt, digit, byteOf, flagsOf}
 use Rattle.bytes.specs.FlagsLaws.{flagsOf-byteOf}
 use Rattle.bytes.specs.Put.{listBytes}
 use Rattle.bytes.specs.PutLaws.{allBytes-words}
-use Rattle.headers.specs.Header.{countAt, rtpAt, flowOf, ipOf, headerOf, ipFront, ipBack, udpBytes, rtpFirst, rtpFixed, headerBytes, headerSize, listAt, longs}
+use Rattle.headers.specs.Header.{countAt, rtpAt, flowOf, ipOf, headerOf, ipFront, ipBack, udpBytes, rtpFirst, rtpFixed, headerBytes, headerSize, longs}
 use Rattle.headers.specs.Compressible.{fixedForm}
 use Rattle.headers.specs.Range.{HeaderInRange, FlowInRange, IpInRange, RtpInRange, ListInRange, Narrow}
 use Rattle.headers.specs.BytesLaws.{allBytes-byteAt, wordAt-bigEndian, longAt-bigEndian, bigEndian-wordAt, bigEndian-longAt, places, places-drop}

@@ -1,7 +1,7 @@
 -- Iarwennol. A compressible packet is its header, printed from the fields, and the rest of its bytes. Assumes nothing.
 -- Used by the theorem on lists of calls: the packet that the decompressor prints is the one that was read.
 use Prim.Native.Nat.{ℕ, _+_, _-_}
-use mathlib.Core.Path.{_≡_, refl, sym, _∙_}
+use mathlib.Core.Path.{_≡_, sym, _∙_}
 use mathlib.Core.Bool.{true}
 use mathlib.Core.List.{List, _++_}
 use native.Mathlib.Omega.{arith}

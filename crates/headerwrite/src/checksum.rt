@@ -1,6 +1,6 @@
 ghost use mathlib.Core.Path.{_≡_};
 ghost use mathlib.Core.List.{[], _∷_};
-ghost use Prim.Native.Nat.{_<_, _≤_, _+_, _*_};
+ghost use Prim.Native.Nat.{_<_, _+_, _*_};
 ghost use Rattle.bytes.specs.Sum.{sumOf};
 ghost use Rattle.headers.specs.Checksum.{ipChecksum, highWord, lowWord};
 ghost use Rattle.headers.specs.Range.{Narrow};

@@ -1,12 +1,11 @@
 use lib.ListN.{length-set}
 use Rattle.headers.specs.ListLaws.{set-listAt}
-use mathlib.Core.Path.{sym, ap, _∙_}
 use Rattle.headers.specs.Header.{longs}
 use lib.ListN.{length, drop, replicate}
 use native.Mathlib.Omega.{arith}
 use mathlib.Core.List.{_++_}
-use mathlib.Core.Path.{_≡_, refl}
-use Prim.Native.Nat.{_≤_, _-_, _+_, _*_}
+use mathlib.Core.Path.{_≡_}
+use Prim.Native.Nat.{_≤_, _-_, _+_}
 use borrow.Author.Needs.{needs}
 use Rattle.headers.proofs.read.read_list.Statement.{statement}
 use Rattle.headers.proofs.read.read_list.Tie as tie
