@@ -21,6 +21,12 @@ allBytes-drop zero a = a
 allBytes-drop (suc n) none = none
 allBytes-drop (suc n) (more h a) = allBytes-drop n a
 
+pub wordAt-lt : {s : List ℕ} → AllBytes s → (at : ℕ) → wordAt s at < 2 ^ 16
+wordAt-lt a at = omega (arith, allBytes-byteAt a at, allBytes-byteAt a (at + 1))
+
+pub longAt-lt : {s : List ℕ} → AllBytes s → (at : ℕ) → longAt s at < 2 ^ 32
+longAt-lt a at = omega (arith, wordAt-lt a at, allBytes-byteAt a (at + 2), allBytes-byteAt a (at + 3))
+
 ---- bigEndian
 
 -- a number of 16 or 32 bits is read back

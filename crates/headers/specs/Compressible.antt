@@ -9,7 +9,7 @@ use Rattle.codes.specs.Reading.{byteAt, wordAt}
 use Rattle.headers.specs.Header.{countAt}
 use Rattle.headers.specs.Checksum.{ipChecksumOf}
 
--- what a full header shares with its packet: first byte; MF and fragment offset 0; protocol; RTP version
+-- what a full header shares with its packet (rule 6.1): first byte; MF and fragment offset 0; protocol; RTP version
 unfoldable pub fixedForm : List ℕ → Bool
 fixedForm p =
     eqb (byteAt p 0) 0x45
@@ -17,7 +17,7 @@ fixedForm p =
     && eqb (byteAt p 9) 17
     && eqb (byteAt p 28 / 64) 2
 
--- 40 bytes or more; the form above; IP length; IP checksum; UDP length; even destination port;
+-- a packet that is compressed: 40 bytes or more; the form above; IP length; IP checksum; UDP length; even destination port;
 -- 12 bytes and the CSRC list within the UDP data, which begin at 28
 unfoldable pub compressible : List ℕ → Bool
 compressible p =

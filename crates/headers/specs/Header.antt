@@ -82,10 +82,14 @@ udpBytes length h = bigEndian 2 (h .flow .sport) ++ (bigEndian 2 (h .flow .dport
 abbrev pub rtpFirst : Header → ℕ
 rtpFirst h = byteOf (record { a = true; b = false; c = h .rtp .padding; d = h .rtp .extension; low = h .csrc .count })
 
+-- marker and payload type
+abbrev pub rtpSecond : Header → ℕ
+rtpSecond h = digit (h .marker) * 128 + h .rtp .payload
+
 -- the twelve fixed bytes
 unfoldable pub rtpFixed : Header → List ℕ
 rtpFixed h =
-    (rtpFirst h ∷ []) ++ (((digit (h .marker) * 128 + h .rtp .payload) ∷ []) ++ (bigEndian 2 (h .rtp .sequence) ++ (bigEndian 4 (h .rtp .timestamp) ++ bigEndian 4 (h .flow .ssrc))))
+    (rtpFirst h ∷ []) ++ ((rtpSecond h ∷ []) ++ (bigEndian 2 (h .rtp .sequence) ++ (bigEndian 4 (h .rtp .timestamp) ++ bigEndian 4 (h .flow .ssrc))))
 
 -- all of them: with length fields and IP checksum as given, since a full header has others than its packet (rule 6.1)
 unfoldable pub headerBytes : (ipLength udpLength ipChecksum : ℕ) → Header → List ℕ

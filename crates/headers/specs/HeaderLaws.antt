@@ -18,8 +18,8 @@ use Rattle.bytes.specs.PutLaws.{allBytes-words}
 use Rattle.headers.specs.Header.{countAt, rtpAt, flowOf, ipOf, headerOf, ipFront, ipBack, udpBytes, rtpFirst, rtpFixed, headerBytes, headerSize, longs}
 use Rattle.headers.specs.Compressible.{fixedForm}
 use Rattle.headers.specs.Range.{HeaderInRange, FlowInRange, IpInRange, RtpInRange, ListInRange, Narrow}
-use Rattle.headers.specs.BytesLaws.{allBytes-byteAt, wordAt-bigEndian, longAt-bigEndian, bigEndian-wordAt, bigEndian-longAt, places, places-drop}
-use Rattle.headers.specs.ListLaws.{listAt-range, longAt-lt, longs-listBytes, listBytes-listAt, length-listBytes}
+use Rattle.headers.specs.BytesLaws.{allBytes-byteAt, wordAt-lt, longAt-lt, wordAt-bigEndian, longAt-bigEndian, bigEndian-wordAt, bigEndian-longAt, places, places-drop}
+use Rattle.headers.specs.ListLaws.{listAt-range, longs-listBytes, listBytes-listAt, length-listBytes}
 use Rattle.headers.specs.ChecksumLaws.{flags-word}
 use Rattle.headers.specs.CompressibleLaws.{FixedForm, fixedForm-true, fixedForm-holds}
 
@@ -128,7 +128,12 @@ module _ (l u k : ℕ) (h : Header) (rest : List ℕ) (r : HeaderInRange h) wher
 
   form-headerBytes : FixedForm (headerBytes l u k h ++ rest)
   unfolding headerBytes ipFront ipBack udpBytes rtpFixed
-  form-headerBytes = record { first = refl; whole = rw (wordAt-bigEndian (h .ip .flags * 0x4000) (omega arith) []) (omega arith); protocol = refl; version = rtpFirst-version }
+  form-headerBytes = record {
+    first = refl;
+    whole = rw (wordAt-bigEndian (h .ip .flags * 0x4000) (omega arith) []) (omega arith);
+    protocol = refl;
+    version = rtpFirst-version;
+  }
 
   pub fixedForm-headerBytes : fixedForm (headerBytes l u k h ++ rest) ≡ true
   fixedForm-headerBytes = fixedForm-holds (headerBytes l u k h ++ rest) form-headerBytes
@@ -143,17 +148,25 @@ module _ (l u k : ℕ) (h : Header) (r : HeaderInRange h) where
   allBytes-ipFront : AllBytes (ipFront l h)
   unfolding ipFront
   allBytes-ipFront =
-      more {b = 0x45} (omega arith) (more {b = h .ip .tos} (r .ip .tos) (allBytes-append (allBytes-bigEndian 2 l) (allBytes-append (allBytes-bigEndian 2 (h .ip .id)) (allBytes-bigEndian 2 (h .ip .flags * 0x4000)))))
+      more {b = 0x45} (omega arith)
+      (more {b = h .ip .tos} (r .ip .tos)
+      (allBytes-append (allBytes-bigEndian 2 l)
+      (allBytes-append (allBytes-bigEndian 2 (h .ip .id)) (allBytes-bigEndian 2 (h .ip .flags * 0x4000)))))
 
   allBytes-ipBack : AllBytes (ipBack k h)
   unfolding ipBack
   allBytes-ipBack =
-      more {b = h .ip .ttl} (r .ip .ttl) (more {b = 17} (omega arith) (allBytes-append (allBytes-bigEndian 2 k) (allBytes-append (allBytes-bigEndian 4 (h .flow .source)) (allBytes-bigEndian 4 (h .flow .destination)))))
+      more {b = h .ip .ttl} (r .ip .ttl)
+      (more {b = 17} (omega arith)
+      (allBytes-append (allBytes-bigEndian 2 k)
+      (allBytes-append (allBytes-bigEndian 4 (h .flow .source)) (allBytes-bigEndian 4 (h .flow .destination)))))
 
   allBytes-udpBytes : AllBytes (udpBytes u h)
   unfolding udpBytes
   allBytes-udpBytes =
-      allBytes-append (allBytes-bigEndian 2 (h .flow .sport)) (allBytes-append (allBytes-bigEndian 2 (h .flow .dport)) (allBytes-append (allBytes-bigEndian 2 u) (allBytes-bigEndian 2 (h .checksum))))
+      allBytes-append (allBytes-bigEndian 2 (h .flow .sport))
+      (allBytes-append (allBytes-bigEndian 2 (h .flow .dport))
+      (allBytes-append (allBytes-bigEndian 2 u) (allBytes-bigEndian 2 (h .checksum))))
 
   allBytes-rtpFixed : AllBytes (rtpFixed h)
   unfolding rtpFixed
@@ -172,20 +185,17 @@ module _ (l u k : ℕ) (h : Header) (r : HeaderInRange h) where
 ---- headerOf
 
 module _ {p : List ℕ} (a : AllBytes p) where
-  wordAt-lt : (at : ℕ) → wordAt p at < 2 ^ 16
-  wordAt-lt at = omega (arith, allBytes-byteAt a at, allBytes-byteAt a (at + 1))
-
   flow-range : FlowInRange (flowOf p)
   unfolding flowOf
-  flow-range = record { source = longAt-lt a 12; destination = longAt-lt a 16; sport = wordAt-lt 20; dport = wordAt-lt 22; ssrc = longAt-lt a 36 }
+  flow-range = record { source = longAt-lt a 12; destination = longAt-lt a 16; sport = wordAt-lt a 20; dport = wordAt-lt a 22; ssrc = longAt-lt a 36 }
 
   ip-range : IpInRange (ipOf p)
   unfolding ipOf
-  ip-range = record { tos = allBytes-byteAt a 1; ttl = allBytes-byteAt a 8; flags = omega (arith, allBytes-byteAt a 6); id = wordAt-lt 4 }
+  ip-range = record { tos = allBytes-byteAt a 1; ttl = allBytes-byteAt a 8; flags = omega (arith, allBytes-byteAt a 6); id = wordAt-lt a 4 }
 
   pub rtpAt-range : (at : ℕ) → RtpInRange (rtpAt p at .rtp)
   unfolding rtpAt
-  rtpAt-range at = record { payload = omega arith; sequence = wordAt-lt (at + 2); timestamp = longAt-lt a (at + 4) }
+  rtpAt-range at = record { payload = omega arith; sequence = wordAt-lt a (at + 2); timestamp = longAt-lt a (at + 4) }
 
   pub rtpAt-listRange : (at : ℕ) → ListInRange (rtpAt p at .csrc)
   unfolding rtpAt
@@ -194,7 +204,7 @@ module _ {p : List ℕ} (a : AllBytes p) where
   -- a header that was read from bytes is in range
   pub headerOf-range : HeaderInRange (headerOf p)
   unfolding headerOf
-  headerOf-range = record { flow = flow-range; ip = ip-range; rtp = rtpAt-range 28; csrc = rtpAt-listRange 28; checksum = wordAt-lt 26 }
+  headerOf-range = record { flow = flow-range; ip = ip-range; rtp = rtpAt-range 28; csrc = rtpAt-listRange 28; checksum = wordAt-lt a 26 }
 
 pub range-narrow : {h : Header} → HeaderInRange h → Narrow h
 range-narrow r = record { flags = r .ip .flags; payload = r .rtp .payload; count = r .csrc .count }

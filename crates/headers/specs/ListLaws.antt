@@ -15,7 +15,7 @@ use Rattle.bytes.specs.Put.{words, listBytes}
 use Rattle.bytes.specs.PutLaws.{length-words}
 use Rattle.headers.specs.Header.{longs, listAt}
 use Rattle.headers.specs.Range.{ListInRange}
-use Rattle.headers.specs.BytesLaws.{allBytes-byteAt, allBytes-drop, longAt-bigEndian, bigEndian-longAt, places-drop}
+use Rattle.headers.specs.BytesLaws.{allBytes-drop, longAt-lt, longAt-bigEndian, bigEndian-longAt, places-drop}
 
 ---- longs
 
@@ -77,9 +77,6 @@ zeros-lt : (k i : ℕ) → getD (replicate k 0) i 0 < 2 ^ 32
 zeros-lt zero i = omega arith
 zeros-lt (suc k) zero = omega arith
 zeros-lt (suc k) (suc i) = zeros-lt k i
-
-pub longAt-lt : {s : List ℕ} → AllBytes s → (at : ℕ) → longAt s at < 2 ^ 32
-longAt-lt a at = omega (arith, allBytes-byteAt a at, allBytes-byteAt a (at + 1), allBytes-byteAt a (at + 2), allBytes-byteAt a (at + 3))
 
 longs-lt : (n k : ℕ) {s : List ℕ} → AllBytes s → (i : ℕ) → getD (longs n s ++ replicate k 0) i 0 < 2 ^ 32
 longs-lt zero k a i = zeros-lt k i
