@@ -1,4 +1,5 @@
-use native.Mathlib.Nat.{zero-add}
+use mathlib.Core.Path.{_≡_}
+use Prim.Native.Nat.{_-_, _%_}
 use Rattle.codes.specs.Difference.{difference}
 use native.Mathlib.Omega.{arith}
 use borrow.Author.Needs.{needs}
@@ -31,7 +32,9 @@ returns c = rw (← c .before .before .before .before .code .ensures 65536 (omeg
 
 returns-2 : tie.Need-returns-2
 unfolding difference
-returns-2 c = rw (← c .before .before .before .before .code .ensures 65536 (omega arith), c .before .before .v2 .given .1, c .difference16 .ensures, zero-add)
+returns-2 c = let v = c .before .before .v2 .given .0 .0 in
+    let e : c .difference16 .result ≡ (65536 - v) % 65536 = omega arith in
+    rw (← c .before .before .before .before .code .ensures 65536 (omega arith), c .before .before .v2 .given .1, e)
 
 returns-3 : tie.Need-returns-3
 returns-3 c = rw (← c .before .before .code .ensures 65536 (omega arith), c .enum-told .given .1)

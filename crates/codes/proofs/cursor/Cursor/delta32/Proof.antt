@@ -1,6 +1,6 @@
 use mathlib.Core.Path.{_≡_}
-use Prim.Native.Nat.{_%_}
-use native.Mathlib.Nat.{mod-eq-of-lt, zero-add}
+use Prim.Native.Nat.{_-_, _%_}
+use native.Mathlib.Nat.{mod-eq-of-lt}
 use Rattle.codes.specs.Difference.{difference}
 use native.Mathlib.Omega.{arith}
 use borrow.Author.Needs.{needs}
@@ -35,7 +35,9 @@ returns c = let v = c .before .v .given .0 .0 in
 
 returns-2 : tie.Need-returns-2
 unfolding difference
-returns-2 c = rw (← c .before .before .before .before .code .ensures 4294967296 (omega arith), c .before .before .v2 .given .1, c .difference32 .ensures, zero-add)
+returns-2 c = let v = c .before .before .v2 .given .0 .0 in
+    let e : c .difference32 .result ≡ (4294967296 - v) % 4294967296 = omega arith in
+    rw (← c .before .before .before .before .code .ensures 4294967296 (omega arith), c .before .before .v2 .given .1, e)
 
 returns-3 : tie.Need-returns-3
 returns-3 c = rw (← c .before .before .code .ensures 4294967296 (omega arith), c .enum-told .given .1)

@@ -1,0 +1,2 @@
+-- Iarwennol. The theorem on lists of calls, for the crates that name two ends.
+pub mod Faithful

@@ -1,0 +1,122 @@
+-- Iarwennol. Every step of the decompressor leaves a sound context for a sound one. Assume nothing.
+-- Used by the soundness of the decompressor's table after each call.
+use Prim.Native.Nat.{ℕ, _≤_}
+use mathlib.Core.Path.{_≡_, refl, sym, ap, _∙_}
+use mathlib.Core.Bool.{Bool, true, false, cond, not, _&&_, false≢true, and-eq-true-iff}
+use Rattle.codes.specs.Difference.{hasCode}
+use Rattle.packet.specs.declared.csrc.Csrc.{Csrc}
+use Rattle.packet.specs.declared.header.Header.{Header}
+use Rattle.packet.specs.declared.header.RtpHeader.{RtpHeader}
+use Rattle.packet.specs.declared.parts.Parts.{Parts}
+use Rattle.context.specs.Field.{gap}
+use Rattle.context.specs.Decompressor.{filled, outcomeOf, ipAfter, rtpAfter, deltasHeld, advanced, advancedWhole, broke, settled, applied, appliedWhole}
+use Rattle.context.specs.Range.{HeaderFits, PartsSound, WholeSound}
+use Rattle.context.specs.Sound.{soundList, soundLink, filledSound, unfilledSound, soundDecompressorBy, soundDecompressor, emptyDecompressor, zeroFlow, zeroIp, zeroRtp, zeroList, zeroDeltas, zeroLink}
+use Rattle.context.specs.declared.kept.Link.{Link}
+use Rattle.context.specs.declared.decompressor.Status.{Status}
+use Rattle.context.specs.declared.decompressor.Status.the-variants.{Empty, Live, Broken}
+use Rattle.context.specs.declared.decompressor.DecompressorContext.{DecompressorContext}
+use Rattle.context.specs.declared.decompressor.Outcome.{Outcome}
+use Rattle.context.specs.declared.decompressor.Outcome.the-variants.{Accepted, Refused}
+use Rattle.context.proofs.Tests.{cond-when}
+use Rattle.context.proofs.Gap.{outcome-live}
+use Rattle.context.proofs.SoundFacts.{soundLink-bounds, FilledBounds, filledSound-bounds, bounds-filledSound, hasCode-zero}
+
+---- A live context is sound where it is filled and its fields are in range
+
+soundDecompressor-live : (c : DecompressorContext) → c .status ≡ Live → soundDecompressor c ≡ (c .filled && filledSound c)
+unfolding soundDecompressor soundDecompressorBy
+soundDecompressor-live c e = ap (λ (s : Status). soundDecompressorBy s c) e
+
+live-filled : (c : DecompressorContext) → c .status ≡ Live → soundDecompressor c ≡ true → (c .filled ≡ true) × (filledSound c ≡ true)
+live-filled c u s = (and-eq-true-iff (c .filled) (filledSound c)) .0 (sym (soundDecompressor-live c u) ∙ s)
+
+pub soundDecompressor-bounds : (c : DecompressorContext) → c .status ≡ Live → soundDecompressor c ≡ true → FilledBounds c
+soundDecompressor-bounds c u s = filledSound-bounds c (live-filled c u s .1)
+
+filled-and : (f b : Bool) → f ≡ true → b ≡ true → (f && b) ≡ true
+filled-and f b e g = rw (e, g)
+
+bounds-soundDecompressor : (c : DecompressorContext) → c .status ≡ Live → c .filled ≡ true → FilledBounds c → soundDecompressor c ≡ true
+bounds-soundDecompressor c u f b = soundDecompressor-live c u ∙ filled-and (c .filled) (filledSound c) f (bounds-filledSound c b)
+
+---- emptyDecompressor, filled
+
+pub sound-none : soundDecompressor emptyDecompressor ≡ true
+unfolding soundDecompressor soundDecompressorBy emptyDecompressor unfilledSound zeroFlow zeroIp zeroRtp zeroList zeroDeltas zeroLink
+sound-none = refl
+
+pub sound-filled : (h : Header) (l : Link) → HeaderFits h → soundLink l ≡ true → soundDecompressor (filled h l) ≡ true
+unfolding filled
+sound-filled h l f s = bounds-soundDecompressor (filled h l) refl refl (record {
+  flags = f .flags;
+  payload = f .payload;
+  list = f .list;
+  coded = hasCode-zero;
+  link = soundLink-bounds l s;
+})
+
+---- advanced, advancedWhole
+
+pub sound-advanced : (g q : ℕ) (c : DecompressorContext) (p : Parts) → q ≤ 15 → PartsSound p → c .status ≡ Live → soundDecompressor c ≡ true → soundDecompressor (advanced g q c p) ≡ true
+unfolding advanced ipAfter rtpAfter deltasHeld
+sound-advanced g q c p small a u s =
+    let b = soundDecompressor-bounds c u s in
+    bounds-soundDecompressor (advanced g q c p) u (live-filled c u s .0) (record {
+      flags = b .flags;
+      payload = cond-when (λ (x : ℕ). x ≤ 127) (p .payload .sent) _ _ (a .payload) (b .payload);
+      list = cond-when (λ (x : Csrc). soundList x ≡ true) (p .listed) _ _ (a .list) (b .list);
+      coded = cond-when (λ (x : ℕ). hasCode 32 x ≡ true) (p .dts .sent) _ _ (a .dts) (b .coded);
+      link = record { sequence = small; generation = b .link .generation };
+    })
+
+pub sound-whole : (g q : ℕ) (c : DecompressorContext) (p : Parts) (w : RtpHeader) → q ≤ 15 → PartsSound p → WholeSound w → c .status ≡ Live → soundDecompressor c ≡ true →
+    soundDecompressor (advancedWhole g q c p w) ≡ true
+unfolding advancedWhole ipAfter deltasHeld
+sound-whole g q c p w small a t u s =
+    let b = soundDecompressor-bounds c u s in
+    bounds-soundDecompressor (advancedWhole g q c p w) u (live-filled c u s .0) (record {
+      flags = b .flags;
+      payload = t .payload;
+      list = t .list;
+      coded = cond-when (λ (x : ℕ). hasCode 32 x ≡ true) (p .dts .sent) _ _ (a .dts) (b .coded);
+      link = record { sequence = small; generation = b .link .generation };
+    })
+
+---- broke
+
+broke-empty : (f a b : Bool) → (not f && b) ≡ true → cond f a b ≡ true
+broke-empty true a b e = absurd (false≢true e)
+broke-empty false a b e = e
+
+broke-live : (f a b : Bool) → (f && a) ≡ true → cond f a b ≡ true
+broke-live true a b e = e
+broke-live false a b e = absurd (false≢true e)
+
+broke-by : (s : Status) (c : DecompressorContext) → soundDecompressorBy s c ≡ true → cond (c .filled) (filledSound c) (unfilledSound c) ≡ true
+unfolding soundDecompressorBy
+broke-by Empty c e = broke-empty (c .filled) (filledSound c) (unfilledSound c) e
+broke-by Live c e = broke-live (c .filled) (filledSound c) (unfilledSound c) e
+broke-by Broken c e = e
+
+pub sound-broke : (c : DecompressorContext) → soundDecompressor c ≡ true → soundDecompressor (broke c) ≡ true
+unfolding broke soundDecompressor soundDecompressorBy filledSound unfilledSound
+sound-broke c s = broke-by (c .status) c s
+
+---- applied, appliedWhole
+
+sound-settled : (o : Outcome) (c next : DecompressorContext) → (o ≡ Accepted → soundDecompressor next ≡ true) → soundDecompressor c ≡ true → soundDecompressor (settled o c next .context) ≡ true
+unfolding settled
+sound-settled Accepted c next f s = f refl
+sound-settled (Refused r) c next f s = sound-broke c s
+
+pub sound-applied : (n q : ℕ) (c : DecompressorContext) (p : Parts) → q ≤ 15 → PartsSound p → soundDecompressor c ≡ true → soundDecompressor (applied n q c p .context) ≡ true
+unfolding applied
+sound-applied n q c p small a s = sound-settled (outcomeOf n q c) c (advanced (gap (c .link .sequence) q) q c p)
+    (λ e. sound-advanced (gap (c .link .sequence) q) q c p small a (outcome-live n q c e) s) s
+
+pub sound-appliedWhole : (n q : ℕ) (c : DecompressorContext) (p : Parts) (w : RtpHeader) → q ≤ 15 → PartsSound p → WholeSound w → soundDecompressor c ≡ true →
+    soundDecompressor (appliedWhole n q c p w .context) ≡ true
+unfolding appliedWhole
+sound-appliedWhole n q c p w small a t s = sound-settled (outcomeOf n q c) c (advancedWhole (gap (c .link .sequence) q) q c p w)
+    (λ e. sound-whole (gap (c .link .sequence) q) q c p w small a t (outcome-live n q c e) s) s

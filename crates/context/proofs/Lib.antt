@@ -1,0 +1,11 @@
+pub mod Tests
+pub mod FieldLaws
+pub mod Gap
+pub mod Ready
+pub mod Lost
+pub mod Arrives
+pub mod Others
+pub mod SoundFacts
+pub mod CompressorSound
+pub mod DecompressorSound
+pub mod PartsLaws

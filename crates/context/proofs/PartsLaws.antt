@@ -1,0 +1,128 @@
+-- Iarwennol. What a packet sent on a context carries: parts that the layouts have room for. Assume nothing.
+-- Used where a packet's parts are written and read back.
+use Prim.Native.Nat.{ℕ, _^_, _<_}
+use mathlib.Core.Path.{_≡_, refl, sym}
+use mathlib.Core.Bool.{Bool, true, false, cond, true≢false}
+use native.Mathlib.Omega.{arith}
+use lib.Dec.{ltb}
+use lib.ListN.{length}
+use borrow.Author.Tests.{eqb-true}
+use Rattle.codes.specs.Difference.{hasCode}
+use Rattle.packet.specs.Csrc.{noList}
+use Rattle.packet.specs.declared.csrc.Csrc.{Csrc}
+use Rattle.packet.specs.declared.header.Header.{Header}
+use Rattle.context.specs.Compressor.{begun, reset, adoptsTimestamp, judged, dueNow, anyDue, kindOf, listIf, partsOf, deltasAfter, moved, sentWith, sentFrom, stepOf}
+use Rattle.context.specs.Range.{HeaderFits, Held, Sendable, PartsFit, Bare}
+use Rattle.context.specs.Sound.{soundList, soundLink, soundCompressor}
+use Rattle.context.specs.declared.compressor.Usage.the-variants.{Live}
+use Rattle.context.specs.declared.compressor.CompressorContext.{CompressorContext}
+use Rattle.context.specs.declared.step.DueNow.{DueNow}
+use Rattle.context.specs.declared.step.Kind.the-variants.{FullHeader, CompressedUdp, CompressedRtp}
+use Rattle.context.proofs.Tests.{cond-when, cond-both, adoptsTimestamp-coded, NoneDue, anyDue-false}
+use Rattle.context.proofs.Ready.{ready-held}
+use Rattle.context.proofs.Lost.{moved-held}
+use Rattle.context.proofs.SoundFacts.{UsedBounds, hasCode-zero, soundList-none, bounds-soundLink}
+use Rattle.context.proofs.CompressorSound.{ready-bounds, soundCompressor-bounds}
+
+---- Sendable
+
+sendable-if : (w : ℕ) (due : Bool) (x : ℕ) → 0 < 2 ^ w → x < 2 ^ w → Sendable w due (cond due x 0)
+sendable-if w true x z h = record { fits = h; none = λ e. absurd (true≢false e) }
+sendable-if w false x z h = record { fits = z; none = λ e. refl }
+
+---- listIf
+
+list-sound : (any : Bool) (l : Csrc) → soundList l ≡ true → soundList (listIf any l) ≡ true
+unfolding listIf
+list-sound any l s = cond-both (λ (x : Csrc). soundList x ≡ true) any l noList s soundList-none
+
+list-words : (any : Bool) (l : Csrc) → length (l .words) ≡ 15 → length (listIf any l .words) ≡ 15
+unfolding listIf
+list-words any l s = cond-both (λ (x : Csrc). length (x .words) ≡ 15) any l noList s refl
+
+list-unlisted : (any : Bool) (l : Csrc) → any ≡ false → listIf any l ≡ noList
+unfolding listIf
+list-unlisted true l e = absurd (true≢false e)
+list-unlisted false l e = refl
+
+---- sentFrom
+
+module _ (n : ℕ) (h : Header) (c : CompressorContext) (fits : HeaderFits h) (held : Held c) (bounds : UsedBounds n c) where
+  sent-fits : PartsFit (sentFrom n h c .context .blank) (sentFrom n h c .parts)
+  unfolding sentWith partsOf moved deltasAfter judged
+  sent-fits =
+      let d : DueNow = dueNow (c .due) (judged h c) in
+      let k : Held (moved n h c (judged h c)) = moved-held n h c fits held in
+      record {
+        checksum = fits .checksum;
+        absent = λ e. eqb-true (h .checksum) 0 e;
+        id = sendable-if 16 (d .id) (h .ip .id) (omega arith) (fits .id);
+        sequence = sendable-if 16 (d .sequence) (h .rtp .sequence) (omega arith) (fits .sequence);
+        timestamp = sendable-if 32 (d .timestamp) (h .rtp .timestamp) (omega arith) (fits .timestamp);
+        payload = sendable-if 7 (d .payload) (h .rtp .payload) (omega arith) (omega (arith, fits .payload));
+        did = sendable-if 16 (d .did) (moved n h c (judged h c) .deltas .id) (omega arith) (k .did);
+        dsn = sendable-if 16 false 0 (omega arith) (omega arith);
+        dts = sendable-if 32 (d .dts) (moved n h c (judged h c) .deltas .timestamp) (omega arith) (k .dts);
+        coded = cond-both (λ (x : ℕ). hasCode 32 x ≡ true) (d .dts) _ 0
+            (cond-when (λ (x : ℕ). hasCode 32 x ≡ true) (adoptsTimestamp h c) _ _ (adoptsTimestamp-coded h c) (bounds .coded)) hasCode-zero;
+        list = list-sound (anyDue d) (h .csrc) (fits .list);
+        words = list-words (anyDue d) (h .csrc) (fits .words);
+        unlisted = list-unlisted (anyDue d) (h .csrc);
+      }
+
+---- kindOf
+
+full-udp : FullHeader ≡ CompressedUdp → ⊥
+full-udp e = let z : _≡_ {A = ℕ} 0 1 = cc in absurd (omega arith)
+
+full-rtp : FullHeader ≡ CompressedRtp → ⊥
+full-rtp e = let z : _≡_ {A = ℕ} 0 1 = cc in absurd (omega arith)
+
+rtp-udp : CompressedRtp ≡ CompressedUdp → ⊥
+rtp-udp e = let z : _≡_ {A = ℕ} 0 1 = cc in absurd (omega arith)
+
+kind-udp : (full any : Bool) → cond full FullHeader (cond any CompressedUdp CompressedRtp) ≡ CompressedUdp → any ≡ true
+kind-udp true any e = absurd (full-udp e)
+kind-udp false true e = refl
+kind-udp false false e = absurd (rtp-udp e)
+
+kind-rtp : (full any : Bool) → cond full FullHeader (cond any CompressedUdp CompressedRtp) ≡ CompressedRtp → any ≡ false
+kind-rtp true any e = absurd (full-rtp e)
+kind-rtp false true e = absurd (rtp-udp (sym e))
+kind-rtp false false e = refl
+
+---- stepOf
+
+module _ (n : ℕ) (h : Header) (s : CompressorContext) where
+  -- what a CU or CR carries can be written; a full header's parts are not sent
+  pub parts-step : HeaderFits h → Held s → s .status ≡ Live → soundCompressor n s ≡ true → PartsFit (stepOf n h s .context .blank) (stepOf n h s .parts)
+  unfolding stepOf
+  parts-step f k u b = sent-fits n h (reset (begun n h s)) f (ready-held n h s k) (ready-bounds n h s (soundCompressor-bounds n s u b))
+
+  -- the link sequence and the generation have their bits
+  pub link-step : s .status ≡ Live → soundCompressor n s ≡ true → soundLink (stepOf n h s .link) ≡ true
+  unfolding stepOf sentWith
+  link-step u b = bounds-soundLink (reset (begun n h s) .link) (ready-bounds n h s (soundCompressor-bounds n s u b) .link)
+
+  -- the list that the parts have, where they have one, is the packet's
+  pub list-step : stepOf n h s .parts .csrc ≡ listIf (stepOf n h s .parts .listed) (h .csrc)
+  unfolding stepOf sentWith partsOf
+  list-step = refl
+
+  -- a CU has the list, and no difference of the sequence
+  pub cu-listed : stepOf n h s .kind ≡ CompressedUdp → stepOf n h s .parts .listed ≡ true
+  unfolding stepOf sentWith partsOf kindOf
+  cu-listed e = kind-udp (ltb 0 (reset (begun n h s) .due .full)) (anyDue (dueNow (reset (begun n h s) .due) (judged h (reset (begun n h s))))) e
+
+  pub step-dsn : stepOf n h s .parts .dsn .sent ≡ false
+  unfolding stepOf sentWith partsOf
+  step-dsn = refl
+
+  -- a CR has neither list nor field
+  pub cr-bare : stepOf n h s .kind ≡ CompressedRtp → Bare (stepOf n h s .parts)
+  unfolding stepOf sentWith partsOf kindOf
+  cr-bare e =
+      let now = dueNow (reset (begun n h s) .due) (judged h (reset (begun n h s))) in
+      let none : anyDue now ≡ false = kind-rtp (ltb 0 (reset (begun n h s) .due .full)) (anyDue now) e in
+      let d : NoneDue now = anyDue-false now none in
+      record { id = d .id; sequence = d .sequence; timestamp = d .timestamp; payload = d .payload; did = d .did; dsn = refl; dts = d .dts; listed = none }

@@ -1,0 +1,181 @@
+-- Iarwennol. Worked cases of both ends' rules for one context (rules 11 and 12.1), those above all that the relation does not see.
+-- Used by no one: they hold the definitions to what was worked out by hand.
+use Prim.Native.Nat.{ℕ}
+use mathlib.Core.Path.{_≡_, refl}
+use mathlib.Core.Bool.{Bool, true, false}
+use Rattle.codes.specs.Difference.{difference, sum, hasCode}
+use Rattle.packet.specs.Csrc.{sameList, noList}
+use Rattle.packet.specs.Sent.{sentIf8, sentIf16, sentIf32}
+use Rattle.packet.specs.declared.header.Header.{Header}
+use Rattle.packet.specs.declared.parts.Parts.{Parts}
+use Rattle.context.specs.Field.{nextSequence, nextGeneration, offPattern, counted, isDue, gap, movedOn}
+use Rattle.context.specs.Compressor.{first, started, sameConstants, begun, startedUnlessDue, requested, reset, adoptsId, adoptsTimestamp, judged, dueNow, anyDue, kindOf, listIf, partsOf, dueAfter, deltasAfter, moved, sentWith, stepOf}
+use Rattle.context.specs.Decompressor.{filled, gapOutcome, outcomeBy, outcomeOf, outcomeNumber, ipAfter, rtpAfter, deltasHeld, advanced, broke, settled, applied, rebuilt}
+use Rattle.context.specs.Sound.{emptyCompressor, emptyDecompressor}
+use Rattle.context.specs.declared.step.Kind.the-variants.{FullHeader, CompressedUdp, CompressedRtp}
+use Rattle.context.specs.declared.compressor.CompressorContext.{CompressorContext}
+use Rattle.context.specs.declared.decompressor.DecompressorContext.{DecompressorContext}
+
+---- A stream: all but TOS, ID, sequence and timestamp stay the same, and the UDP checksum is blank
+
+abbrev pub packet : (tos id sequence timestamp : ℕ) → Header
+packet s i q t = record {
+  flow = record { source = 1; destination = 2; sport = 5004; dport = 5006; ssrc = 9 };
+  ip = record { tos = s; ttl = 64; flags = 2; id = i };
+  rtp = record { padding = false; extension = false; payload = 0; sequence = q; timestamp = t };
+  csrc = noList;
+  marker = false;
+  checksum = 0;
+}
+
+abbrev pub voice : (id sequence timestamp : ℕ) → Header
+voice i q t = packet 0 i q t
+
+-- the compressor's context after a first packet, and after one more
+abbrev pub opened : ℕ → Header → CompressorContext
+opened n h = first n h (record { sequence = 0; generation = 0 })
+
+abbrev pub after : ℕ → CompressorContext → Header → CompressorContext
+after n c h = stepOf n h c .context
+
+-- N 2, timestamps 10, 20, 30 in full headers
+abbrev pub rising : CompressorContext
+rising = after 2 (after 2 (opened 2 (voice 1 7 10)) (voice 2 8 20)) (voice 3 9 30)
+
+-- N 1, full headers with timestamps 10 and 20
+abbrev pub jumped : CompressorContext
+jumped = after 1 (opened 1 (voice 1 7 10)) (voice 2 8 20)
+
+-- N 0, timestamps 980, 990, 1000: the delta is 10
+abbrev pub steady : CompressorContext
+steady = after 0 (after 0 (opened 0 (voice 1 7 980)) (voice 2 8 990)) (voice 3 9 1000)
+
+-- the decompressor's context after a full header with link sequence 0, ID 1, sequence 7, timestamp 10
+abbrev pub heard : DecompressorContext
+heard = filled (voice 1 7 10) (record { sequence = 0; generation = 0 })
+
+-- a CU or CR with the marker set and no field but perhaps a difference of the ID
+abbrev pub bringing : (differs : Bool) (d : ℕ) → Parts
+bringing differs d = record {
+  marker = true;
+  checksum = 0;
+  id = sentIf16 false 0;
+  sequence = sentIf16 false 0;
+  timestamp = sentIf32 false 0;
+  payload = sentIf8 false 0;
+  did = sentIf16 differs d;
+  dsn = sentIf16 false 0;
+  dts = sentIf32 false 0;
+  listed = false;
+  csrc = noList;
+}
+
+abbrev pub nothing : Parts
+nothing = bringing false 0
+
+---- The cases
+
+pub record Compressing : Type 0 where
+  -- rule 11.1: after 10, 20, 30 in full headers comes 40, with an ID off pattern: a CU with the ID, the timestamp and its delta
+  pub rising-kind : stepOf 2 (voice 4660 10 40) rising .kind ≡ CompressedUdp
+  pub rising-sequence : stepOf 2 (voice 4660 10 40) rising .link .sequence ≡ 3
+  pub rising-parts : stepOf 2 (voice 4660 10 40) rising .parts ≡ record {
+    marker = false;
+    checksum = 0;
+    id = sentIf16 true 4660;
+    sequence = sentIf16 false 0;
+    timestamp = sentIf32 true 40;
+    payload = sentIf8 false 0;
+    did = sentIf16 false 0;
+    dsn = sentIf16 false 0;
+    dts = sentIf32 true 10;
+    listed = true;
+    csrc = noList;
+  }
+  -- rule 11.2: 20 after 10 and 20 is on pattern and still sent, for it was off pattern inside the run (rule 12.1)
+  pub jumped-parts : stepOf 1 (voice 3 9 20) jumped .parts .timestamp ≡ sentIf32 true 20
+  pub jumped-delta : stepOf 1 (voice 3 9 20) jumped .parts .dts ≡ sentIf32 false 0
+  -- rule 8.8: nothing is due
+  pub steady-kind : stepOf 0 (voice 4 10 1010) steady .kind ≡ CompressedRtp
+  -- rule 12.1: 3010 after 1000 keeps the delta 10, and is sent whole
+  pub silence-delta : after 0 steady (voice 4 10 3010) .deltas .timestamp ≡ 10
+  pub silence-parts : stepOf 0 (voice 4 10 3010) steady .parts .timestamp ≡ sentIf32 true 3010
+  -- rule 8.6: ID 5 then 5, at a context's second packet: off pattern, sent whole, and no delta
+  pub second-parts : stepOf 0 (voice 5 8 10) (opened 0 (voice 5 7 10)) .parts .id ≡ sentIf16 true 5
+  pub second-delta : stepOf 0 (voice 5 8 10) (opened 0 (voice 5 7 10)) .parts .did ≡ sentIf16 false 0
+  -- rule 8.6: a third 5 has it
+  pub third-delta : stepOf 0 (voice 5 9 10) (after 0 (opened 0 (voice 5 7 10)) (voice 5 8 10)) .parts .did ≡ sentIf16 true 0
+  -- rule 8.3: another TOS starts a run, its generation one higher
+  pub changed-kind : stepOf 0 (packet 1 4 10 1010) steady .kind ≡ FullHeader
+  pub changed-generation : stepOf 0 (packet 1 4 10 1010) steady .link .generation ≡ 1
+  -- rules 9.4, 9.5: a request is skipped while full headers are due and where the context is empty; else it starts a run
+  pub request-due : requested 1 (opened 1 (voice 1 7 10)) ≡ opened 1 (voice 1 7 10)
+  pub request-empty : requested 1 emptyCompressor ≡ emptyCompressor
+  pub request-starts : requested 1 jumped .due .full ≡ 2
+  pub request-rises : requested 1 jumped .link .generation ≡ 1
+  -- rule 8.3: a request and then another TOS: the generation rises twice
+  pub request-changed : stepOf 1 (packet 1 3 9 20) (requested 1 jumped) .link .generation ≡ 2
+
+pub record Rebuilding : Type 0 where
+  -- rule 11.2: N 14, fourteen lost, gap 15, accepted, with fifteen steps; gap 0 is refused with 9
+  pub far : outcomeNumber (applied 14 15 heard nothing .outcome) ≡ 0
+  pub far-id : applied 14 15 heard nothing .context .ip .id ≡ 16
+  pub far-sequence : applied 14 15 heard nothing .context .rtp .sequence ≡ 22
+  pub again : outcomeNumber (applied 14 0 heard nothing .outcome) ≡ 9
+  -- rules 7.4, 12.1: gap 3 and a difference of 5: two steps of 1, and one of 5, which is kept
+  pub three-steps : applied 2 3 heard (bringing true 5) .context .ip .id ≡ 8
+  pub three-kept : applied 2 3 heard (bringing true 5) .context .deltas .id ≡ 5
+  -- rule 3.1: N 1 and gap 3
+  pub too-far : outcomeNumber (applied 1 3 heard nothing .outcome) ≡ 9
+  -- rules 7.2, 12.1: no gap is looked at but a live context's
+  pub broken : outcomeNumber (applied 14 0 (broke heard) nothing .outcome) ≡ 8
+  pub empty : outcomeNumber (applied 14 0 emptyDecompressor nothing .outcome) ≡ 8
+  pub empty-in-step : outcomeNumber (applied 14 1 emptyDecompressor nothing .outcome) ≡ 8
+  -- rules 7.6, 7.8: the marker is taken; the checksum is 0 where none is carried
+  pub marked : rebuilt (applied 2 1 heard nothing .context) 77 ≡ record {
+    flow = voice 2 8 10 .flow;
+    ip = voice 2 8 10 .ip;
+    rtp = voice 2 8 10 .rtp;
+    csrc = noList;
+    marker = true;
+    checksum = 0;
+  }
+
+pub compressing : Compressing
+unfolding difference hasCode sameList nextSequence nextGeneration offPattern counted isDue first started sameConstants begun startedUnlessDue requested reset adoptsId adoptsTimestamp judged dueNow anyDue kindOf listIf partsOf dueAfter deltasAfter moved sentWith stepOf emptyCompressor
+compressing = record {
+  rising-kind = refl;
+  rising-sequence = refl;
+  rising-parts = refl;
+  jumped-parts = refl;
+  jumped-delta = refl;
+  steady-kind = refl;
+  silence-delta = refl;
+  silence-parts = refl;
+  second-parts = refl;
+  second-delta = refl;
+  third-delta = refl;
+  changed-kind = refl;
+  changed-generation = refl;
+  request-due = refl;
+  request-empty = refl;
+  request-starts = refl;
+  request-rises = refl;
+  request-changed = refl;
+}
+
+pub rebuilding : Rebuilding
+unfolding sum gap movedOn filled gapOutcome outcomeBy outcomeOf ipAfter rtpAfter deltasHeld advanced broke settled applied rebuilt emptyDecompressor
+rebuilding = record {
+  far = refl;
+  far-id = refl;
+  far-sequence = refl;
+  again = refl;
+  three-steps = refl;
+  three-kept = refl;
+  too-far = refl;
+  broken = refl;
+  empty = refl;
+  empty-in-step = refl;
+  marked = refl;
+}

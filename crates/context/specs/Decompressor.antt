@@ -1,0 +1,173 @@
+-- Iarwennol. The decompressor's rules for one context (rules 7, 3.1). n: the repeats; g: the gap; q: a packet's link sequence.
+-- Used by rebuild, whose code equals them, and by the relation between the ends.
+use Prim.Native.Nat.{ℕ, _+_}
+use mathlib.Core.Bool.{Bool, true, cond, not, _||_}
+use lib.Dec.{eqb, ltb}
+use Rattle.packet.specs.declared.header.Header.{Header}
+use Rattle.packet.specs.declared.header.RtpHeader.{RtpHeader}
+use Rattle.packet.specs.declared.header.Ip.{Ip}
+use Rattle.packet.specs.declared.header.Rtp.{Rtp}
+use Rattle.packet.specs.declared.parts.Parts.{Parts}
+use Rattle.context.specs.Field.{gap, movedOn}
+use Rattle.context.specs.Refusal.{numberOf}
+use Rattle.context.specs.declared.kept.Deltas.{Deltas}
+use Rattle.context.specs.declared.kept.Link.{Link}
+use Rattle.context.specs.declared.refusal.Refusal.the-variants.{NotLive, OutOfStep}
+use Rattle.context.specs.declared.decompressor.Status.{Status}
+use Rattle.context.specs.declared.decompressor.Status.the-variants.{Empty, Live, Broken}
+use Rattle.context.specs.declared.decompressor.DecompressorContext.{DecompressorContext}
+use Rattle.context.specs.declared.decompressor.Outcome.{Outcome}
+use Rattle.context.specs.declared.decompressor.Outcome.the-variants.{Accepted, Refused}
+use Rattle.context.specs.declared.decompressor.Applied.{Applied}
+
+---- A full header
+
+-- rule 7.1: it sets the whole context
+unfoldable pub filled : Header → Link → DecompressorContext
+filled h l = record {
+  status = Live;
+  filled = true;
+  flow = h .flow;
+  ip = h .ip;
+  rtp = h .rtp;
+  csrc = h .csrc;
+  carried = not (eqb (h .checksum) 0);
+  marker = h .marker;
+  deltas = record { id = 1; timestamp = 0 };
+  link = l;
+}
+
+---- The gap
+
+-- rule 3.1: the widest gap that is accepted
+abbrev pub furthest : ℕ → ℕ
+furthest n = n + 1
+
+abbrev pub outOfStep : (n g : ℕ) → Bool
+outOfStep n g = eqb g 0 || ltb (furthest n) g
+
+unfoldable pub gapOutcome : (n g : ℕ) → Outcome
+gapOutcome n g = cond (outOfStep n g) (Refused OutOfStep) Accepted
+
+-- rules 7.2, 3.1: only a live context has its gap looked at
+unfoldable pub outcomeBy : Status → (n q : ℕ) → DecompressorContext → Outcome
+outcomeBy Empty n q c = Refused NotLive
+outcomeBy Live n q c = gapOutcome n (gap (c .link .sequence) q)
+outcomeBy Broken n q c = Refused NotLive
+
+unfoldable pub outcomeOf : (n q : ℕ) → DecompressorContext → Outcome
+outcomeOf n q c = outcomeBy (c .status) n q c
+
+-- rule 3.1: the number of an outcome
+abbrev pub outcomeNumber : Outcome → ℕ
+outcomeNumber Accepted = 0
+outcomeNumber (Refused r) = numberOf r
+
+---- The fields after a CU or CR
+
+-- rules 7.3, 7.4: the ID
+unfoldable pub ipAfter : ℕ → DecompressorContext → Parts → Ip
+ipAfter g c p = record {
+  tos = c .ip .tos;
+  ttl = c .ip .ttl;
+  flags = c .ip .flags;
+  id = movedOn 16 g (c .ip .id) (c .deltas .id) (p .did .sent) (p .did .value) (p .id .sent) (p .id .value);
+}
+
+-- rules 7.3, 7.4: sequence, 1 a step, timestamp and payload type
+unfoldable pub rtpAfter : ℕ → DecompressorContext → Parts → Rtp
+rtpAfter g c p = record {
+  padding = c .rtp .padding;
+  extension = c .rtp .extension;
+  payload = cond (p .payload .sent) (p .payload .value) (c .rtp .payload);
+  sequence = movedOn 16 g (c .rtp .sequence) 1 (p .dsn .sent) (p .dsn .value) (p .sequence .sent) (p .sequence .value);
+  timestamp = movedOn 32 g (c .rtp .timestamp) (c .deltas .timestamp) (p .dts .sent) (p .dts .value) (p .timestamp .sent) (p .timestamp .value);
+}
+
+-- rule 7.5
+unfoldable pub deltasHeld : Deltas → Parts → Deltas
+deltasHeld kept p = record {
+  id = cond (p .did .sent) (p .did .value) (kept .id);
+  timestamp = cond (p .dts .sent) (p .dts .value) (kept .timestamp);
+}
+
+-- rules 7.3 to 7.6, 6.4, 6.5: a CR, or a CU with F
+unfoldable pub advanced : (g q : ℕ) → DecompressorContext → Parts → DecompressorContext
+advanced g q c p = record {
+  status = c .status;
+  filled = c .filled;
+  flow = c .flow;
+  ip = ipAfter g c p;
+  rtp = rtpAfter g c p;
+  csrc = cond (p .listed) (p .csrc) (c .csrc);
+  carried = c .carried;
+  marker = p .marker;
+  deltas = deltasHeld (c .deltas) p;
+  link = record { sequence = q; generation = c .link .generation };
+}
+
+-- rule 7.7: a CU without F; w: the RTP header that it carries
+unfoldable pub advancedWhole : (g q : ℕ) → DecompressorContext → Parts → RtpHeader → DecompressorContext
+advancedWhole g q c p w = record {
+  status = c .status;
+  filled = c .filled;
+  flow = record {
+    source = c .flow .source;
+    destination = c .flow .destination;
+    sport = c .flow .sport;
+    dport = c .flow .dport;
+    ssrc = w .ssrc;
+  };
+  ip = ipAfter g c p;
+  rtp = w .rtp;
+  csrc = w .csrc;
+  carried = c .carried;
+  marker = w .marker;
+  deltas = deltasHeld (c .deltas) p;
+  link = record { sequence = q; generation = c .link .generation };
+}
+
+---- A CU or CR, whole
+
+-- rule 3.1: a broken context is otherwise as it was
+unfoldable pub broke : DecompressorContext → DecompressorContext
+broke c = record {
+  status = Broken;
+  filled = c .filled;
+  flow = c .flow;
+  ip = c .ip;
+  rtp = c .rtp;
+  csrc = c .csrc;
+  carried = c .carried;
+  marker = c .marker;
+  deltas = c .deltas;
+  link = c .link;
+}
+
+-- rule 3.1: both refusals break the context
+unfoldable pub settled : Outcome → (c next : DecompressorContext) → Applied
+settled Accepted c next = record { outcome = Accepted; context = next }
+settled (Refused r) c next = record { outcome = Refused r; context = broke c }
+
+unfoldable pub applied : (n q : ℕ) → DecompressorContext → Parts → Applied
+applied n q c p = settled (outcomeOf n q c) c (advanced (gap (c .link .sequence) q) q c p)
+
+unfoldable pub appliedWhole : (n q : ℕ) → DecompressorContext → Parts → RtpHeader → Applied
+appliedWhole n q c p w = settled (outcomeOf n q c) c (advancedWhole (gap (c .link .sequence) q) q c p w)
+
+---- The rebuilt packet
+
+-- rule 7.8: what stands in the UDP checksum's place
+abbrev pub checksumOf : DecompressorContext → (sent : ℕ) → ℕ
+checksumOf c sent = cond (c .carried) sent 0
+
+-- the header at which a context stands
+unfoldable pub rebuilt : DecompressorContext → (sent : ℕ) → Header
+rebuilt c sent = record {
+  flow = c .flow;
+  ip = c .ip;
+  rtp = c .rtp;
+  csrc = c .csrc;
+  marker = c .marker;
+  checksum = checksumOf c sent;
+}

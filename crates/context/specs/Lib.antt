@@ -1,0 +1,8 @@
+pub mod Refusal
+pub mod Field
+pub mod Compressor
+pub mod Decompressor
+pub mod Sound
+pub mod Range
+pub mod Relation
+pub mod Cases

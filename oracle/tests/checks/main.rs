@@ -1,0 +1,14 @@
+//! Checks of the scope's rules. Each check is a function of a built-in fault: the tests run them with
+//! none, and `mutants` shows that every fault makes some check fail.
+
+#[macro_use]
+mod support;
+
+mod cases;
+mod layouts;
+mod lists;
+mod mutants;
+mod published;
+mod refusals;
+mod scripts;
+mod soundness;

@@ -1,0 +1,385 @@
+//! The text form of calls, and generated scripts: answers are well formed and agree with each other.
+
+use oracle::generate::Generator;
+use oracle::script::Runner;
+use std::collections::{HashMap, VecDeque};
+use std::io::Write;
+use std::process::{Command, Stdio};
+
+fn answer(runner: &mut Runner, line: &str) -> String {
+    let mut text = String::new();
+    runner.answer(line, &mut text);
+    text
+}
+
+/// Writes out words like `15*0`.
+fn expand(text: &str) -> String {
+    let words: Vec<String> = text
+        .split(' ')
+        .map(|word| match word.split_once('*') {
+            Some((count, value)) => vec![value; count.parse().expect("a count")].join(" "),
+            None => word.to_string(),
+        })
+        .collect();
+    words.join(" ")
+}
+
+fn transcript(text: &str) {
+    let mut runner = Runner::default();
+    for pair in text.trim().lines().collect::<Vec<_>>().chunks(2) {
+        let (call, wanted) = (pair[0].trim(), expand(pair[1].trim()));
+        assert_eq!(answer(&mut runner, call), wanted, "answer to {call}");
+    }
+}
+
+/// A call and its answer, line by line. The packet is the starred case's flow: IP checksum of
+/// 4500002a 0001 4000 4011 0a000001 0a000002: the sum is 4500+2a+1+4000+4011+0a00+1+0a00+2 = d93f,
+/// its complement 26c0.
+#[test]
+fn worked_transcript() {
+    transcript(
+        "s 45 10
+         1 0 0 -
+         q 0101008000
+         1 0
+         p 10
+         1 0 -
+         os 15 1
+         1
+         os 0 2
+         0
+         or 0 2
+         0
+         s 4500002a00014000401126c00a0000010a000002138c138e001600008000000100000000000000ffda7a 42
+         0 1 42 4500400000014000401126c00a0000010a000002138c138e000000008000000100000000000000ffda7a
+         r 1 4500400000014000401126c00a0000010a000002138c138e000000008000000100000000000000ffda7a 50
+         0 42 4500002a00014000401126c00a0000010a000002138c138e001600008000000100000000000000ffda7a
+         r 3 0001da7a 41
+         11 0 -
+         r 3 0001da7a 42
+         0 42 4500002a00024000401126bf0a0000010a000002138c138e001600008000000200000000000000ffda7a
+         r 4294967295 - 0
+         3 0 -
+         r 3 0100 9
+         8 0 -
+         p 5
+         0 5 0101018000
+         dr 1
+         0 2 2 37*0
+         dr 0
+         0 2 1 1 167772161 167772162 5004 5006 255 0 64 1 0 0 0 0 2 2 0 0 0 15*0 1 0 1 0
+         ds 0
+         0 2 1 167772161 167772162 5004 5006 255 0 64 1 0 0 1 1 1 0 0 0 15*0 1 0 0 0 0 5*0 0 0 0 1 0
+         q 0101008000
+         0 0
+         ds 0
+         0 2 1 167772161 167772162 5004 5006 255 0 64 1 0 0 1 1 1 0 0 0 15*0 1 0 0 0 0 5*0 0 0 1 1 1
+         ws flags 0 200
+         ok
+         q 0101008000
+         1 0
+         ws flags 0 256
+         ?
+         ws status 0 2
+         ?
+         wr status 0 2
+         ok
+         p 100
+         0 8 0102008100018000
+         ws k 0 65
+         ok",
+    );
+}
+
+#[test]
+fn lines_that_are_no_calls() {
+    let mut runner = Runner::default();
+    for line in [
+        "",
+        " ",
+        "s",
+        "s 45",
+        "s 4 1",
+        "s 4G 1",
+        "s 4A 1",
+        "s 45 4097",
+        "s 45 1 1",
+        "s 45  1",
+        "S 45 1",
+        "q",
+        "r 1 45",
+        "r -1 45 1",
+        "r 4294967296 45 1",
+        "p",
+        "p x",
+        "os 1",
+        "or 1 2 3",
+        "os +1 2",
+        "ds",
+        "ds 64",
+        "dr -1",
+        "ws tos 64 1",
+        "ws tos 0",
+        "ws tos 0 256",
+        "ws sport 0 65536",
+        "ws source 0 4294967296",
+        "ws earlier 0 2",
+        "ws csrc15 0 1",
+        "ws filled 0 1",
+        "wr blank 0 1",
+        "wr status 0 3",
+        "ws n 1 1",
+        "s 45 1 ",
+        "x",
+    ] {
+        assert_eq!(answer(&mut runner, line), "?", "line {line:?}");
+    }
+    // None of them changed anything.
+    let zeros = vec!["0"; 49].join(" ");
+    assert_eq!(answer(&mut runner, "ds 0"), zeros);
+}
+
+/// Every field can be written and shows up in its own place, and only there.
+#[test]
+fn fields_by_name() {
+    for (end, names) in [
+        ("s", &oracle::script::COMPRESSOR_FIELDS[..]),
+        ("r", &oracle::script::DECOMPRESSOR_FIELDS[..]),
+    ] {
+        for (place, name) in names.iter().enumerate() {
+            let mut runner = Runner::default();
+            assert_eq!(answer(&mut runner, &format!("w{end} {name} 63 1")), "ok");
+            let shown = answer(&mut runner, &format!("d{end} 63"));
+            let mut wanted = vec!["0"; names.len() + 2];
+            wanted[place + 2] = "1";
+            assert_eq!(shown, wanted.join(" "), "{name}");
+        }
+    }
+}
+
+/// What must hold between the lines of one script, whoever wrote it.
+#[derive(Default)]
+struct Watch {
+    /// N, while both ends run from openings with the same settings and nothing else touched them.
+    repeats: Option<usize>,
+    opened: [Option<(String, String)>; 2],
+    fresh: [bool; 2],
+    in_flight: VecDeque<(String, String, String)>,
+    lost_in_a_row: HashMap<u8, usize>,
+    rebuilt: usize,
+    numbers: HashMap<String, usize>,
+}
+
+impl Watch {
+    fn see(&mut self, line: &str, answer: &str) {
+        let words: Vec<&str> = line.split(' ').collect();
+        let parts: Vec<&str> = answer.split(' ').collect();
+        assert!(!answer.contains("touched"), "{line}: {answer}");
+        if answer == "?" {
+            return;
+        }
+        let call = words[0];
+        if matches!(call, "os" | "or" | "s" | "q" | "r" | "p") {
+            let number: u8 = parts[0].parse().expect("a number");
+            let allowed: &[u8] = match call {
+                "os" | "or" => &[0, 1],
+                "s" => &[0, 1, 2, 11],
+                "q" => &[0, 1, 4, 5, 6],
+                "p" => &[0, 1, 11],
+                _ => &[0, 1, 2, 3, 4, 5, 6, 7, 8, 9, 10, 11],
+            };
+            assert!(allowed.contains(&number), "{line}: {answer}");
+            *self.numbers.entry(format!("{call} {number}")).or_insert(0) += 1;
+            if number != 0 && call != "os" && call != "or" {
+                assert!(
+                    parts[1..].iter().all(|part| *part == "0" || *part == "-"),
+                    "{line}: {answer}"
+                );
+            }
+        }
+        match call {
+            "os" | "or" if answer == "0" => self.see_opening(call == "or", words[1], words[2]),
+            "ws" | "wr" => self.repeats = None,
+            "s" if parts[0] == "0" => self.see_send(words[1], words[2], &parts),
+            "r" => self.see_arrival(&words, &parts),
+            _ => {}
+        }
+    }
+
+    fn see_opening(&mut self, decompressor: bool, repeats: &str, contexts: &str) {
+        let end = usize::from(decompressor);
+        self.opened[end] = Some((repeats.to_string(), contexts.to_string()));
+        self.fresh[end] = true;
+        self.repeats = None;
+        if self.fresh == [true, true] && self.opened[0] == self.opened[1] {
+            self.repeats = repeats.parse().ok();
+            self.in_flight.clear();
+            self.lost_in_a_row.clear();
+        }
+    }
+
+    fn see_send(&mut self, packet: &str, room: &str, parts: &[&str]) {
+        self.fresh[0] = false;
+        let length: usize = parts[2].parse().expect("a length");
+        assert!(length <= room.parse().expect("a room"));
+        assert!(length <= packet.len() / 2, "a link packet is never longer");
+        assert_eq!(parts[3].len(), 2 * length);
+        if parts[1] == "0" {
+            assert_eq!(parts[3], packet, "plain is unchanged");
+        }
+        let sent = (
+            parts[1].to_string(),
+            parts[3].to_string(),
+            packet.to_string(),
+        );
+        self.in_flight.push_back(sent);
+    }
+
+    /// An arrival of something sent, in order, must rebuild it; anything else ends the watch unless it
+    /// was refused without a trace.
+    fn see_arrival(&mut self, words: &[&str], parts: &[&str]) {
+        self.fresh[1] = false;
+        let Some(repeats) = self.repeats else {
+            return;
+        };
+        let sent = self
+            .in_flight
+            .iter()
+            .position(|(link_type, bytes, _)| link_type == words[1] && bytes == words[2]);
+        let Some(before) = sent else {
+            if !["1", "2", "3", "4", "5", "6", "7", "10", "11"].contains(&parts[0])
+                && words[1] != "0"
+            {
+                self.repeats = None;
+            }
+            return;
+        };
+        let skipped: Vec<_> = self.in_flight.drain(..before).collect();
+        for (link_type, bytes, _) in &skipped {
+            self.count_loss(link_type, bytes, repeats);
+        }
+        let (link_type, bytes, packet) = self.in_flight.pop_front().expect("found above");
+        let room: usize = words[3].parse().expect("a room");
+        if 2 * room < packet.len() {
+            self.count_loss(&link_type, &bytes, repeats);
+        } else if let Some(place) = place(&link_type, &bytes) {
+            self.lost_in_a_row.insert(place, 0);
+        }
+        if self.repeats.is_none() {
+            return;
+        }
+        if 2 * room < packet.len() {
+            assert_eq!(parts, ["11", "0", "-"]);
+        } else {
+            let length = (packet.len() / 2).to_string();
+            assert_eq!(parts, ["0", &length, &packet], "arrival {words:?}");
+            self.rebuilt += 1;
+        }
+    }
+
+    fn count_loss(&mut self, link_type: &str, bytes: &str, repeats: usize) {
+        if let Some(place) = place(link_type, bytes) {
+            let lost = self.lost_in_a_row.entry(place).or_insert(0);
+            *lost += 1;
+            if *lost > repeats {
+                self.repeats = None;
+            }
+        }
+    }
+}
+
+fn place(link_type: &str, bytes: &str) -> Option<u8> {
+    let at = match link_type {
+        "0" => return None,
+        "1" => 6,
+        _ => 0,
+    };
+    u8::from_str_radix(&bytes[at..at + 2], 16).ok()
+}
+
+#[test]
+fn generated_scripts_agree_with_themselves() {
+    let mut rebuilt = 0;
+    let mut calls = 0;
+    let mut numbers: HashMap<String, usize> = HashMap::new();
+    for seed in 0..12 {
+        let mut generator = Generator::new(seed, false);
+        let mut runner = Runner::default();
+        let mut watch = Watch::default();
+        for _ in 0..25_000 {
+            let line = generator.next_line();
+            let answer = answer(&mut runner, &line);
+            watch.see(&line, &answer);
+            calls += 1;
+        }
+        rebuilt += watch.rebuilt;
+        for (number, count) in watch.numbers {
+            *numbers.entry(number).or_insert(0) += count;
+        }
+    }
+    println!("generated calls: {calls}, rebuilt under watch: {rebuilt}");
+    assert!(rebuilt > 20_000, "only {rebuilt} arrivals were watched");
+    // Every number of every call must come up.
+    for (call, wanted) in [
+        ("os", &[0, 1][..]),
+        ("or", &[0, 1]),
+        ("s", &[0, 1, 2, 11]),
+        ("q", &[0, 1, 4, 5, 6]),
+        ("p", &[0, 1, 11]),
+        ("r", &[0, 1, 2, 3, 4, 5, 6, 7, 8, 9, 10, 11]),
+    ] {
+        for number in wanted {
+            let name = format!("{call} {number}");
+            assert!(
+                numbers.get(&name).is_some_and(|&count| count >= 10),
+                "{name} is rare"
+            );
+        }
+    }
+}
+
+#[test]
+fn generated_scripts_are_the_same_for_the_same_seed() {
+    let script = |seed: u64, sender_only: bool| -> Vec<String> {
+        let mut generator = Generator::new(seed, sender_only);
+        (0..3000).map(|_| generator.next_line()).collect()
+    };
+    assert_eq!(script(5, false), script(5, false));
+    assert_ne!(script(5, false), script(6, false));
+    // Only the sender's calls when asked; lines that are no calls stand among them.
+    let mut runner = Runner::default();
+    for line in script(5, true) {
+        let call = line.split(' ').next().unwrap_or("");
+        let known = matches!(call, "os" | "s" | "q" | "ws" | "ds");
+        assert!(known || answer(&mut runner, &line) == "?", "{line}");
+    }
+}
+
+#[test]
+fn binaries_work_together() {
+    let script = Command::new(env!("CARGO_BIN_EXE_gen"))
+        .args(["3", "2000"])
+        .output()
+        .expect("gen runs");
+    assert!(script.status.success());
+    let mut run = Command::new(env!("CARGO_BIN_EXE_run"))
+        .stdin(Stdio::piped())
+        .stdout(Stdio::piped())
+        .spawn()
+        .expect("run starts");
+    let mut input = run.stdin.take().expect("a pipe");
+    let bytes = script.stdout.clone();
+    let writer = std::thread::spawn(move || input.write_all(&bytes));
+    let answers = run.wait_with_output().expect("run ends");
+    writer.join().expect("no panic").expect("all written");
+    let script = String::from_utf8(script.stdout).expect("text");
+    let answers = String::from_utf8(answers.stdout).expect("text");
+    assert_eq!(script.lines().count(), 2000);
+    let mut runner = Runner::default();
+    let wanted: Vec<String> = script
+        .lines()
+        .map(|line| answer(&mut runner, line))
+        .collect();
+    let found: Vec<&str> = answers.lines().collect();
+    assert_eq!(found, wanted);
+}
