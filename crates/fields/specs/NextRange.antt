@@ -91,7 +91,7 @@ module _ (s : List ℕ) where
   unfolding readBy
   readBy-within m at =
       chosen-within (ltb (byteAt s at) 0x80) _ _ (λ e. codeAt-within m at 1 (byteAt s at)) (
-        chosen-within (ltb (byteAt s at) 0xC0) _ _ (λ e. codeAt-within m at 2 (wordAt s at)) (codeAt-within m at 3 (tripleAt s at))
+      chosen-within (ltb (byteAt s at) 0xC0) _ _ (λ e. codeAt-within m at 2 (wordAt s at)) (codeAt-within m at 3 (tripleAt s at))
       )
 
   pub readDelta-within : (w at : ℕ) → readDelta w s at .at ≤ length s
@@ -143,7 +143,7 @@ module _ (m : ℕ) (s : List ℕ) (Q : ℕ → Type 0) (zero-holds : Q 0) where
   unfolding readBy
   readBy-value at h =
       chosen-value Q (ltb (byteAt s at) 0x80) _ _ (λ e. codeAt-value at 1 (byteAt s at) h) (
-        chosen-value Q (ltb (byteAt s at) 0xC0) _ _ (λ e. codeAt-value at 2 (wordAt s at) h) (codeAt-value at 3 (tripleAt s at) h)
+      chosen-value Q (ltb (byteAt s at) 0xC0) _ _ (λ e. codeAt-value at 2 (wordAt s at) h) (codeAt-value at 3 (tripleAt s at) h)
       )
 
 -- a difference lies within its field
