@@ -117,23 +117,23 @@ Carried h = (none16 ≡ h .id) × (none16 ≡ h .sequence) × (none32 ≡ h .tim
 
 cr-same : (h : Parts) → Carried h → (p : Place)
     → _≡_ {A = ReadParts}
-      record {
-        place = p;
-        parts = record {
-          marker = h .marker;
-          checksum = h .checksum;
-          id = none16;
-          sequence = none16;
-          timestamp = none32;
-          payload = none8;
-          did = h .did;
-          dsn = h .dsn;
-          dts = h .dts;
-          listed = h .listed;
-          csrc = h .csrc;
-        };
-      }
-      record { place = p; parts = h }
+    record {
+      place = p;
+      parts = record {
+        marker = h .marker;
+        checksum = h .checksum;
+        id = none16;
+        sequence = none16;
+        timestamp = none32;
+        payload = none8;
+        did = h .did;
+        dsn = h .dsn;
+        dts = h .dts;
+        listed = h .listed;
+        csrc = h .csrc;
+      };
+    }
+    record { place = p; parts = h }
 cr-same h c p = λ i. record {
   place = p;
   parts = record {
@@ -232,13 +232,13 @@ module _ (context link : ℕ) (carried : Bool) (h : Parts) (fits : CrFits link c
   unfolding crBytes
   allBytes-crBytes k =
       more k (more (byteOf-value (crFlags link h) (fits .small)) (
-        allBytes-append (
-          allBytes-append (allBytes-optional carried (allBytes-bigEndian 2 (h .checksum))) (
-            allBytes-optional (h .listed) (more (byteOf-value (crOwn h (h .csrc .count)) (omega (arith, fits .parts .list .sound .count))) none)
-          )
-        ) (
-          allBytes-append (allBytes-delta16 (h .did)) (
-            allBytes-append (allBytes-delta16 (h .dsn)) (allBytes-append (allBytes-delta32 (h .dts)) (allBytes-words (take (h .csrc .count) (h .csrc .words))))
-          )
-        )
+      allBytes-append (
+      allBytes-append (allBytes-optional carried (allBytes-bigEndian 2 (h .checksum))) (
+      allBytes-optional (h .listed) (more (byteOf-value (crOwn h (h .csrc .count)) (omega (arith, fits .parts .list .sound .count))) none)
+      )
+      ) (
+      allBytes-append (allBytes-delta16 (h .did)) (
+      allBytes-append (allBytes-delta16 (h .dsn)) (allBytes-append (allBytes-delta32 (h .dts)) (allBytes-words (take (h .csrc .count) (h .csrc .words))))
+      )
+      )
       ))

@@ -151,18 +151,18 @@ module _ (context link : ℕ) (carried : Bool) (h : Parts) (fits : CuFits link c
   allBytes-changes : AllBytes (changeBytes carried h)
   allBytes-changes =
       allBytes-append (allBytes-optional carried (allBytes-bigEndian 2 (h .checksum))) (
-        allBytes-append (allBytes-delta16 (h .did)) (allBytes-append (allBytes-delta32 (h .dts)) (allBytes-whole16 (h .id)))
+      allBytes-append (allBytes-delta16 (h .did)) (allBytes-append (allBytes-delta32 (h .dts)) (allBytes-whole16 (h .id)))
       )
 
   allBytes-values : AllBytes (valueBytes h)
   allBytes-values =
       allBytes-append (allBytes-whole16 (h .sequence)) (
-        allBytes-append (allBytes-whole32 (h .timestamp)) (allBytes-append (allBytes-whole8 (h .payload) (omega (arith, fits .parts .payload .fits))) (allBytes-words (take (h .csrc .count) (h .csrc .words))))
+      allBytes-append (allBytes-whole32 (h .timestamp)) (allBytes-append (allBytes-whole8 (h .payload) (omega (arith, fits .parts .payload .fits))) (allBytes-words (take (h .csrc .count) (h .csrc .words))))
       )
 
   pub allBytes-cuBytes : context < 256 → AllBytes (cuBytes context link carried h)
   unfolding cuBytes
   allBytes-cuBytes k =
       more k (more (byteOf-value (cuFlags link h) (fits .small)) (
-        more (byteOf-value (cuSecond h) (omega (arith, fits .parts .list .sound .count))) (allBytes-append allBytes-changes allBytes-values)
+      more (byteOf-value (cuSecond h) (omega (arith, fits .parts .list .sound .count))) (allBytes-append allBytes-changes allBytes-values)
       ))
