@@ -10,3 +10,6 @@ pub mod CrLaws
 pub mod Whole
 pub mod WholeLaws
 pub mod Range
+pub mod Judgement
+pub mod Cs
+pub mod CsLaws

@@ -32,9 +32,9 @@ same-length c = search needs
 -- src/cr.rt:76:1
 returns : tie.Need-returns
 returns c = (
-      omega arith,
-      wrote-then (c .before .before .before .before .before .before .before .before .before .before .before .before .before .before .put-delta16 .ensures) (wrote-then (c .before .before .before .before .before .before .before .before .before .before .put-delta162 .ensures) (wrote-then (c .before .before .before .before .before .before .put-delta32 .ensures) (c .before .before .put-list .ensures .1))),
-    )
+  omega arith,
+  wrote-then (c .before .before .before .before .before .before .before .before .before .before .before .before .before .before .put-delta16 .ensures) (wrote-then (c .before .before .before .before .before .before .before .before .before .before .put-delta162 .ensures) (wrote-then (c .before .before .before .before .before .before .put-delta32 .ensures) (c .before .before .put-list .ensures .1))),
+)
 
 pub put-deltas-spec : {M : Type 1} → statement M
 put-deltas-spec =

@@ -42,10 +42,10 @@ same-length c = search needs
 -- src/cr.rt:64:1
 returns : tie.Need-returns
 returns c = (
-      omega arith,
-      rw (c .before .before .before .before .before .before .before .before .before .before .before .before .before .before .before .before .before .cr-flags .ensures, c .before .before .before .before .before .before .before .before .before .before .before .before .before .before .before .before .cr-second .ensures) at
+  omega arith,
+  rw (c .before .before .before .before .before .before .before .before .before .before .before .before .before .before .before .before .before .cr-flags .ensures, c .before .before .before .before .before .before .before .before .before .before .before .before .before .before .before .before .cr-second .ensures) at
       (wrote-then (c .before .before .before .before .before .before .before .before .before .before .before .before .before .before .put8 .ensures) (wrote-then (c .before .before .before .before .before .before .before .before .before .before .put82 .ensures) (wrote-then (c .before .before .before .before .before .before .put16-if .ensures .1) (c .before .before .put8-if .ensures .1)))),
-    )
+)
 
 pub put-head-spec : {M : Type 1} → statement M
 put-head-spec =

@@ -32,9 +32,9 @@ same-length c = search needs
 -- src/cu.rt:92:1
 returns : tie.Need-returns
 returns c = (
-      omega arith,
-      wrote-then (c .before .before .before .before .before .before .before .before .before .before .before .before .before .before .put16-if .ensures .1) (wrote-then (c .before .before .before .before .before .before .before .before .before .before .put-delta16 .ensures) (wrote-then (c .before .before .before .before .before .before .put-delta32 .ensures) (c .before .before .put16-if2 .ensures .1))),
-    )
+  omega arith,
+  wrote-then (c .before .before .before .before .before .before .before .before .before .before .before .before .before .before .put16-if .ensures .1) (wrote-then (c .before .before .before .before .before .before .before .before .before .before .put-delta16 .ensures) (wrote-then (c .before .before .before .before .before .before .put-delta32 .ensures) (c .before .before .put16-if2 .ensures .1))),
+)
 
 pub put-changes-spec : {M : Type 1} → statement M
 put-changes-spec =

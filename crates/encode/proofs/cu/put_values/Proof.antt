@@ -33,9 +33,9 @@ same-length c = search needs
 -- src/cu.rt:102:1
 returns : tie.Need-returns
 returns c = (
-      omega arith,
-      wrote-then (c .before .before .before .before .before .before .before .before .before .before .before .before .before .before .put16-if .ensures .1) (wrote-then (c .before .before .before .before .before .before .before .before .before .before .put32-if .ensures .1) (wrote-then (c .before .before .before .before .before .before .put8-if .ensures .1) (c .before .before .put-list .ensures .1))),
-    )
+  omega arith,
+  wrote-then (c .before .before .before .before .before .before .before .before .before .before .before .before .before .before .put16-if .ensures .1) (wrote-then (c .before .before .before .before .before .before .before .before .before .before .put32-if .ensures .1) (wrote-then (c .before .before .before .before .before .before .put8-if .ensures .1) (c .before .before .put-list .ensures .1))),
+)
 
 pub put-values-spec : {M : Type 1} → statement M
 put-values-spec =
