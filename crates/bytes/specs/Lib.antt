@@ -2,3 +2,5 @@ pub mod Put
 pub mod PutLaws
 pub mod Flags
 pub mod FlagsLaws
+pub mod Sum
+pub mod SumLaws

@@ -1,0 +1,20 @@
+use Rattle.bytes.specs.Sum.{plus}
+use borrow.Author.Needs.{needs}
+use Rattle.bytes.proofs.sum.add.Statement.{statement}
+use Rattle.bytes.proofs.sum.add.Tie as tie
+
+add-t : tie.Need-add-t
+add-t c = search needs
+
+add-result : tie.Need-add-result
+add-result c = search needs
+
+cast-result : tie.Need-cast-result
+cast-result c = search needs
+
+returns : tie.Need-returns
+unfolding plus
+returns c = search needs
+
+pub add-spec : {M : Type 1} → statement M
+add-spec = tie.close (tie.spec add-t add-result cast-result returns)

@@ -1,0 +1,31 @@
+ghost use mathlib.Core.Path.{_≡_};
+ghost use Rattle.bytes.specs.Sum.{plus, sumOf, wordsOf};
+use codes::cursor::be16;
+
+// One word added to a ones' complement sum: the carry goes back in at the low end.
+pub fn add(start: u16, word: u16) -> u16
+    ensures { λ r. ⌜ r ≡ plus start word ⌝ }
+{
+    let t = (start as u32) + (word as u32);
+    (t % 65536 + t / 65536) as u16
+}
+
+// The ones' complement sum of a part of a packet, added to a start value.
+//
+// The part may have any length: after an odd number of bytes a zero byte is taken to follow. The start value is the sum of
+// another part, so that a sum goes over parts that do not stand side by side.
+pub fn sum(start: u16, part: &[u8]) -> u16
+    ensures { λ r. ⌜ r ≡ sumOf start (wordsOf (now (part .entry))) ⌝ }
+{
+    let mut acc = start;
+    let mut i = 0;
+    while 2 <= part.len() - i {
+        acc = add(acc, be16(part[i], part[i + 1]));
+        i += 2;
+    }
+    if i < part.len() {
+        add(acc, be16(part[i], 0))
+    } else {
+        acc
+    }
+}

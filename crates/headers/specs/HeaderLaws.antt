@@ -1,0 +1,251 @@
+-- Iarwennol. Laws of a header and its bytes: what is written is read back, and what is read is written back. Assume nothing.
+-- Used by the round trips of the link layouts and by the theorem on lists of calls.
+use Prim.Native.Nat.{ℕ, zero, suc, _+_, _-_, _*_, _/_, _%_, _^_, _≤_, _<_}
+use mathlib.Core.Path.{_≡_, refl, sym, ap, _∙_}
+use mathlib.Core.Bool.{Bool, true, false}
+use mathlib.Core.List.{List, [], _∷_, _++_}
+use native.Mathlib.Omega.{arith}
+use lib.Dec.{eqb}
+use lib.ListN.{length, take, drop, replicate}
+use Rattle.codes.specs.Bytes.{AllBytes, more, bigEndian}
+use Rattle.codes.specs.BytesLaws.{allBytes-append, allBytes-bigEndian}
+use Rattle.codes.specs.Reading.{byteAt, wordAt}
+use Rattle.packet.specs.declared.header.Header.{Header}
+use Rattle.bytes.specs.Flags.{bitAt, digit, byteOf, flagsOf}
+use Rattle.bytes.specs.FlagsLaws.{flagsOf-byteOf}
+use Rattle.bytes.specs.Put.{listBytes}
+use Rattle.bytes.specs.PutLaws.{allBytes-words}
+use Rattle.headers.specs.Header.{countAt, rtpAt, flowOf, ipOf, headerOf, ipFront, ipBack, udpBytes, rtpFirst, rtpFixed, headerBytes, headerSize, longs}
+use Rattle.headers.specs.Compressible.{fixedForm}
+use Rattle.headers.specs.Range.{HeaderInRange, FlowInRange, IpInRange, RtpInRange, ListInRange, Narrow}
+use Rattle.headers.specs.BytesLaws.{allBytes-byteAt, wordAt-lt, longAt-lt, wordAt-bigEndian, longAt-bigEndian, bigEndian-wordAt, bigEndian-longAt, places, places-drop}
+use Rattle.headers.specs.ListLaws.{listAt-range, longs-listBytes, listBytes-listAt, length-listBytes}
+use Rattle.headers.specs.ChecksumLaws.{flags-word}
+use Rattle.headers.specs.CompressibleLaws.{FixedForm, fixedForm-true, fixedForm-holds}
+
+---- the bytes of flags
+
+digit-le : (b : Bool) → digit b ≤ 1
+digit-le true = omega arith
+digit-le false = omega arith
+
+-- a bit that was read, as a number
+digit-eqb : (x : ℕ) → x ≤ 1 → digit (eqb x 1) ≡ x
+digit-eqb zero h = refl
+digit-eqb (suc zero) h = refl
+digit-eqb (suc (suc x)) h = absurd (omega arith)
+
+-- marker and payload type share a byte
+marker-back : (m : Bool) (v : ℕ) → v < 128 → bitAt 7 (digit m * 128 + v) ≡ m
+marker-back true v h = let e : (1 * 128 + v) / 128 % 2 ≡ 1 = omega arith in rw e
+marker-back false v h = let e : (0 * 128 + v) / 128 % 2 ≡ 0 = omega arith in rw e
+
+payload-back : (m : Bool) (v : ℕ) → v < 128 → (digit m * 128 + v) % 128 ≡ v
+payload-back m v h = omega arith
+
+second-back : (b : ℕ) → b < 256 → digit (bitAt 7 b) * 128 + b % 128 ≡ b
+second-back b h = rw (digit-eqb (b / 128 % 2) (omega arith)) (omega arith)
+
+first-back : (b : ℕ) → b < 256 → b / 64 ≡ 2 → byteOf (record { a = true; b = false; c = bitAt 5 b; d = bitAt 4 b; low = b % 16 }) ≡ b
+first-back b h v = rw (digit-eqb (b / 32 % 2) (omega arith), digit-eqb (b / 16 % 2) (omega arith)) (omega arith)
+
+---- headerBytes, written and read
+
+module _ (l u k : ℕ) (h : Header) (rest : List ℕ) (r : HeaderInRange h) where
+  flags-first : flagsOf (rtpFirst h) ≡ record { a = true; b = false; c = h .rtp .padding; d = h .rtp .extension; low = h .csrc .count }
+  flags-first = flagsOf-byteOf (record { a = true; b = false; c = h .rtp .padding; d = h .rtp .extension; low = h .csrc .count }) (omega arith)
+
+  flow-back : flowOf (headerBytes l u k h ++ rest) ≡ h .flow
+  unfolding flowOf headerBytes ipFront ipBack udpBytes rtpFixed
+  flow-back = λ i. record {
+    source = longAt-bigEndian (h .flow .source) (r .flow .source) [] i;
+    destination = longAt-bigEndian (h .flow .destination) (r .flow .destination) [] i;
+    sport = wordAt-bigEndian (h .flow .sport) (r .flow .sport) [] i;
+    dport = wordAt-bigEndian (h .flow .dport) (r .flow .dport) [] i;
+    ssrc = longAt-bigEndian (h .flow .ssrc) (r .flow .ssrc) [] i;
+  }
+
+  ip-back : ipOf (headerBytes l u k h ++ rest) ≡ h .ip
+  unfolding ipOf headerBytes ipFront ipBack
+  ip-back = λ i. record {
+    tos = h .ip .tos;
+    ttl = h .ip .ttl;
+    flags = flags-back i;
+    id = wordAt-bigEndian (h .ip .id) (r .ip .id) [] i;
+  }
+    where
+      flags-back : h .ip .flags * 0x4000 / 256 % 256 / 64 ≡ h .ip .flags
+      flags-back = omega arith
+
+  rtp-back : rtpAt (headerBytes l u k h ++ rest) 28 .rtp ≡ h .rtp
+  unfolding rtpAt headerBytes ipFront ipBack udpBytes rtpFixed
+  rtp-back = λ i. record {
+    padding = flags-first i .c;
+    extension = flags-first i .d;
+    payload = payload-back (h .marker) (h .rtp .payload) (r .rtp .payload) i;
+    sequence = wordAt-bigEndian (h .rtp .sequence) (r .rtp .sequence) [] i;
+    timestamp = longAt-bigEndian (h .rtp .timestamp) (r .rtp .timestamp) [] i;
+  }
+
+  marker-read : rtpAt (headerBytes l u k h ++ rest) 28 .marker ≡ h .marker
+  unfolding rtpAt headerBytes ipFront ipBack udpBytes rtpFixed
+  marker-read = marker-back (h .marker) (h .rtp .payload) (r .rtp .payload)
+
+  pub countAt-headerBytes : countAt (headerBytes l u k h ++ rest) 28 ≡ h .csrc .count
+  unfolding headerBytes ipFront ipBack udpBytes rtpFixed
+  countAt-headerBytes = λ i. flags-first i .low
+
+  words-back : (n : ℕ) → n ≡ h .csrc .count → longs n (listBytes (h .csrc) ++ rest) ++ replicate (15 - n) 0 ≡ h .csrc .words
+  words-back n e = rw e (longs-listBytes (h .csrc) rest (r .csrc))
+
+  csrc-back : rtpAt (headerBytes l u k h ++ rest) 28 .csrc ≡ h .csrc
+  unfolding rtpAt headerBytes ipFront ipBack udpBytes rtpFixed
+  csrc-back = λ i. record { count = countAt-headerBytes i; words = words-back (rtpFirst h % 16) countAt-headerBytes i }
+
+  checksum-back : wordAt (headerBytes l u k h ++ rest) 26 ≡ h .checksum
+  unfolding headerBytes ipFront ipBack udpBytes
+  checksum-back = wordAt-bigEndian (h .checksum) (r .checksum) []
+
+  -- a header that was written is read back, whatever its length fields and its IP checksum
+  pub headerOf-headerBytes : headerOf (headerBytes l u k h ++ rest) ≡ h
+  unfolding headerOf
+  headerOf-headerBytes = λ i. record { flow = flow-back i; ip = ip-back i; rtp = rtp-back i; csrc = csrc-back i; marker = marker-read i; checksum = checksum-back i }
+
+  pub ipLength-headerBytes : l < 2 ^ 16 → wordAt (headerBytes l u k h ++ rest) 2 ≡ l
+  unfolding headerBytes ipFront
+  ipLength-headerBytes b = wordAt-bigEndian l b []
+
+  pub udpLength-headerBytes : u < 2 ^ 16 → wordAt (headerBytes l u k h ++ rest) 24 ≡ u
+  unfolding headerBytes ipFront ipBack udpBytes
+  udpLength-headerBytes b = wordAt-bigEndian u b []
+
+  pub ipChecksum-headerBytes : k < 2 ^ 16 → wordAt (headerBytes l u k h ++ rest) 10 ≡ k
+  unfolding headerBytes ipFront ipBack
+  ipChecksum-headerBytes b = wordAt-bigEndian k b []
+
+  rtpFirst-version : rtpFirst h / 64 ≡ 2
+  rtpFirst-version = omega (arith, digit-le (h .rtp .padding), digit-le (h .rtp .extension))
+
+  form-headerBytes : FixedForm (headerBytes l u k h ++ rest)
+  unfolding headerBytes ipFront ipBack udpBytes rtpFixed
+  form-headerBytes = record {
+    first = refl;
+    whole = rw (wordAt-bigEndian (h .ip .flags * 0x4000) (omega arith) []) (omega arith);
+    protocol = refl;
+    version = rtpFirst-version;
+  }
+
+  pub fixedForm-headerBytes : fixedForm (headerBytes l u k h ++ rest) ≡ true
+  fixedForm-headerBytes = fixedForm-holds (headerBytes l u k h ++ rest) form-headerBytes
+
+---- the bytes themselves
+
+module _ (l u k : ℕ) (h : Header) (r : HeaderInRange h) where
+  pub length-headerBytes : length (headerBytes l u k h) ≡ headerSize h
+  unfolding headerBytes ipFront ipBack udpBytes rtpFixed
+  length-headerBytes = omega (arith, length-listBytes (h .csrc) (omega arith))
+
+  allBytes-ipFront : AllBytes (ipFront l h)
+  unfolding ipFront
+  allBytes-ipFront =
+      more {b = 0x45} (omega arith)
+      (more {b = h .ip .tos} (r .ip .tos)
+      (allBytes-append (allBytes-bigEndian 2 l)
+      (allBytes-append (allBytes-bigEndian 2 (h .ip .id)) (allBytes-bigEndian 2 (h .ip .flags * 0x4000)))))
+
+  allBytes-ipBack : AllBytes (ipBack k h)
+  unfolding ipBack
+  allBytes-ipBack =
+      more {b = h .ip .ttl} (r .ip .ttl)
+      (more {b = 17} (omega arith)
+      (allBytes-append (allBytes-bigEndian 2 k)
+      (allBytes-append (allBytes-bigEndian 4 (h .flow .source)) (allBytes-bigEndian 4 (h .flow .destination)))))
+
+  allBytes-udpBytes : AllBytes (udpBytes u h)
+  unfolding udpBytes
+  allBytes-udpBytes =
+      allBytes-append (allBytes-bigEndian 2 (h .flow .sport))
+      (allBytes-append (allBytes-bigEndian 2 (h .flow .dport))
+      (allBytes-append (allBytes-bigEndian 2 u) (allBytes-bigEndian 2 (h .checksum))))
+
+  allBytes-rtpFixed : AllBytes (rtpFixed h)
+  unfolding rtpFixed
+  allBytes-rtpFixed =
+      more {b = rtpFirst h} (omega (arith, digit-le (h .rtp .padding), digit-le (h .rtp .extension)))
+      (more {b = digit (h .marker) * 128 + h .rtp .payload} (omega (arith, digit-le (h .marker)))
+      (allBytes-append (allBytes-bigEndian 2 (h .rtp .sequence)) (allBytes-append (allBytes-bigEndian 4 (h .rtp .timestamp)) (allBytes-bigEndian 4 (h .flow .ssrc)))))
+
+  pub allBytes-headerBytes : AllBytes (headerBytes l u k h)
+  unfolding headerBytes
+  allBytes-headerBytes =
+      allBytes-append allBytes-ipFront
+      (allBytes-append allBytes-ipBack
+      (allBytes-append allBytes-udpBytes (allBytes-append allBytes-rtpFixed (allBytes-words (take (h .csrc .count) (h .csrc .words))))))
+
+---- headerOf
+
+module _ {p : List ℕ} (a : AllBytes p) where
+  flow-range : FlowInRange (flowOf p)
+  unfolding flowOf
+  flow-range = record { source = longAt-lt a 12; destination = longAt-lt a 16; sport = wordAt-lt a 20; dport = wordAt-lt a 22; ssrc = longAt-lt a 36 }
+
+  ip-range : IpInRange (ipOf p)
+  unfolding ipOf
+  ip-range = record { tos = allBytes-byteAt a 1; ttl = allBytes-byteAt a 8; flags = omega (arith, allBytes-byteAt a 6); id = wordAt-lt a 4 }
+
+  pub rtpAt-range : (at : ℕ) → RtpInRange (rtpAt p at .rtp)
+  unfolding rtpAt
+  rtpAt-range at = record { payload = omega arith; sequence = wordAt-lt a (at + 2); timestamp = longAt-lt a (at + 4) }
+
+  pub rtpAt-listRange : (at : ℕ) → ListInRange (rtpAt p at .csrc)
+  unfolding rtpAt
+  rtpAt-listRange at = listAt-range a (at + 12) (countAt p at) (omega arith)
+
+  -- a header that was read from bytes is in range
+  pub headerOf-range : HeaderInRange (headerOf p)
+  unfolding headerOf
+  headerOf-range = record { flow = flow-range; ip = ip-range; rtp = rtpAt-range 28; csrc = rtpAt-listRange 28; checksum = wordAt-lt a 26 }
+
+pub range-narrow : {h : Header} → HeaderInRange h → Narrow h
+range-narrow r = record { flags = r .ip .flags; payload = r .rtp .payload; count = r .csrc .count }
+
+---- headerBytes, read and written
+
+module _ {p : List ℕ} (a : AllBytes p) (f : fixedForm p ≡ true) where
+  ipFront-back : ipFront (wordAt p 2) (headerOf p) ≡ places 8 0 p
+  unfolding ipFront headerOf ipOf
+  ipFront-back = λ i.
+      (sym (fixedForm-true p f .first) i ∷ [])
+      ++ ((byteAt p 1 ∷ []) ++ (bigEndian-wordAt a 2 i ++ (bigEndian-wordAt a 4 i ++ flags-bytes i)))
+    where
+      flags-bytes : bigEndian 2 (byteAt p 6 / 64 * 0x4000) ≡ byteAt p 6 ∷ byteAt p 7 ∷ []
+      flags-bytes = ap (bigEndian 2) (flags-word a f) ∙ bigEndian-wordAt a 6
+
+  ipBack-back : ipBack (wordAt p 10) (headerOf p) ≡ places 12 8 p
+  unfolding ipBack headerOf ipOf flowOf
+  ipBack-back = λ i.
+      (byteAt p 8 ∷ [])
+      ++ ((sym (fixedForm-true p f .protocol) i ∷ []) ++ (bigEndian-wordAt a 10 i ++ (bigEndian-longAt a 12 i ++ bigEndian-longAt a 16 i)))
+
+  udpBytes-back : udpBytes (wordAt p 24) (headerOf p) ≡ places 8 20 p
+  unfolding udpBytes headerOf flowOf
+  udpBytes-back = λ i. bigEndian-wordAt a 20 i ++ (bigEndian-wordAt a 22 i ++ (bigEndian-wordAt a 24 i ++ bigEndian-wordAt a 26 i))
+
+  rtpFixed-back : rtpFixed (headerOf p) ≡ places 12 28 p
+  unfolding rtpFixed headerOf flowOf rtpAt
+  rtpFixed-back = λ i.
+      (first-back (byteAt p 28) (allBytes-byteAt a 28) (fixedForm-true p f .version) i ∷ [])
+      ++ ((second-back (byteAt p 29) (allBytes-byteAt a 29) i ∷ []) ++ (bigEndian-wordAt a 30 i ++ (bigEndian-longAt a 32 i ++ bigEndian-longAt a 36 i)))
+
+  list-back : headerSize (headerOf p) ≤ length p → listBytes (headerOf p .csrc) ++ drop (headerSize (headerOf p)) p ≡ drop 40 p
+  unfolding headerOf rtpAt
+  list-back h = listBytes-listAt a 40 (countAt p 28) h
+
+  -- the header of some bytes, written with the length fields and the IP checksum that stand in them, is their front
+  pub headerBytes-headerOf : headerSize (headerOf p) ≤ length p
+      → headerBytes (wordAt p 2) (wordAt p 24) (wordAt p 10) (headerOf p) ++ drop (headerSize (headerOf p)) p ≡ p
+  unfolding headerBytes
+  headerBytes-headerOf h =
+      (λ i. (ipFront-back i ++ (ipBack-back i ++ (udpBytes-back i ++ (rtpFixed-back i ++ listBytes (headerOf p .csrc))))) ++ drop (headerSize (headerOf p)) p)
+      ∙ ap {B = List ℕ} (λ s. places 40 0 p ++ s) (list-back h)
+      ∙ places-drop 40 p (omega arith)

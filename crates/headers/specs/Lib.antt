@@ -1,0 +1,11 @@
+pub mod Header
+pub mod Checksum
+pub mod Compressible
+pub mod Range
+pub mod BytesLaws
+pub mod ListLaws
+pub mod CompressibleLaws
+pub mod ChecksumLaws
+pub mod HeaderLaws
+pub mod RoundTrip
+pub mod Cases

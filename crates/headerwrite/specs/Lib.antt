@@ -1,0 +1,1 @@
+-- Iarwennol. What is written is defined in headers.
