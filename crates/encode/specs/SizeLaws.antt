@@ -5,14 +5,12 @@ use mathlib.Core.Path.{_≡_, refl}
 use mathlib.Core.Bool.{Bool, true, false, cond}
 use mathlib.Core.List.{List, [], _∷_, _++_}
 use native.Mathlib.Omega.{arith}
-use lib.ListN.{length, take, length-append}
-use lib.Seq.{length-take-le}
+use lib.ListN.{length, length-append}
 use Rattle.codes.specs.Bytes.{bigEndian}
-use Rattle.packet.specs.declared.csrc.Csrc.{Csrc}
 use Rattle.packet.specs.declared.parts.Parts.{Parts}
 use Rattle.bytes.specs.Flags.{byteOf}
-use Rattle.bytes.specs.Put.{optional, listBytes}
-use Rattle.bytes.specs.PutLaws.{length-words}
+use Rattle.bytes.specs.Put.{optional}
+use Rattle.headers.specs.ListLaws.{length-listBytes}
 use Rattle.links.specs.Cu.{changeBytes, valueBytes, cuBytes}
 use Rattle.links.specs.Cr.{crOwn, crHeadBytes, deltaBytes, crBytes}
 use Rattle.encode.specs.Size.{changeSize, valueSize, cuSize, crHeadSize, deltaSize, crSize}
@@ -20,12 +18,6 @@ use Rattle.encode.specs.Size.{changeSize, valueSize, cuSize, crHeadSize,
 length-optional : (w : Bool) (bs : List ℕ) → length (optional w bs) ≡ cond w (length bs) 0
 length-optional true bs = refl
 length-optional false bs = refl
-
-length-listBytes : (l : Csrc) → l .count ≤ length (l .words) → length (listBytes l) ≡ 4 * l .count
-length-listBytes l k =
-    let d = length-words (take (l .count) (l .words)) in
-    let n = length-take-le (l .count) (l .words) k in
-    omega arith
 
 length-changes : (carried : Bool) (h : Parts) → length (changeBytes carried h) ≡ changeSize carried h
 length-changes carried h =

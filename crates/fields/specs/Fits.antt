@@ -3,7 +3,7 @@
 use Prim.Native.Nat.{ℕ, _-_, _^_, _≤_, _<_}
 use mathlib.Core.Path.{_≡_}
 use mathlib.Core.Bool.{Bool, cond}
-use lib.ListN.{length, getD, drop, replicate}
+use lib.ListN.{length, drop, replicate}
 use Rattle.packet.specs.declared.csrc.Csrc.{Csrc}
 
 -- a field of w bits that may be sent: 0 where it is not
@@ -11,13 +11,8 @@ pub record Sendable (w : ℕ) (sent : Bool) (value : ℕ) : Type 0 where
   pub fits : value < 2 ^ w
   pub blank : cond sent value 0 ≡ value
 
--- rule 2.3: fifteen words, of which those past the count are 0
+-- rule 2.3: fifteen words, of which those past the count are 0, whatever the words are
 pub record ListSound (l : Csrc) : Type 0 where
   pub count : l .count ≤ 15
-  pub fifteen : length (l .words) ≡ 15
-  pub zeros : drop (l .count) (l .words) ≡ replicate (15 - l .count) 0
-
--- and every word has 32 bits
-pub record ListFits (l : Csrc) : Type 0 where
-  pub sound : ListSound l
-  pub small : (i : ℕ) → getD (l .words) i 0 < 2 ^ 32
+  pub size : length (l .words) ≡ 15
+  pub blank : drop (l .count) (l .words) ≡ replicate (15 - l .count) 0

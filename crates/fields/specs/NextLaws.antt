@@ -16,10 +16,10 @@ use Rattle.codes.specs.Difference.{hasCode}
 use Rattle.codes.specs.Reading.{Reading, accepted, readByte, readWord, readLong, readDelta}
 use Rattle.codes.specs.RoundTrip.{left-after, left-length, readByte-written, readWord-written, readLong-written, readDelta-16, readDelta-32}
 use Rattle.packet.specs.declared.csrc.Csrc.{Csrc}
+use Rattle.headers.specs.Range.{ListInRange}
 use Rattle.bytes.specs.Put.{optional, words, listBytes}
 use Rattle.bytes.specs.PutLaws.{words-take}
 use Rattle.fields.specs.declared.place.GotList.{GotList}
-use Rattle.fields.specs.Fits.{ListSound, ListFits}
 use Rattle.fields.specs.Place.{good, step, got8, got16, got32}
 use Rattle.fields.specs.Next.{next, readPayload, readVersion, nextByte, nextWord, nextLong, nextDelta16, nextDelta32, nextPayload, nextVersion, nextList}
 
@@ -112,8 +112,8 @@ filled-more ws n k h =
     let q = length-take-le n ws (omega arith) in
     rw (z, take-suc ws n 0 (omega arith), append-assoc) (set-at (take n ws) 0 (replicate (15 - suc n) 0) (getD ws n 0) n q)
 
-filled-sound : (l : Csrc) → ListSound l → filled (l .words) (l .count) ≡ l .words
-filled-sound l f = rw (← f .zeros) (take-append-drop (l .count) (l .words))
+filled-same : (l : Csrc) → ListInRange l → filled (l .words) (l .count) ≡ l .words
+filled-same l f = rw (← f .blank) (take-append-drop (l .count) (l .words))
 
 words-suc : (ws : List ℕ) (n : ℕ) → n < length ws → words (take (suc n) ws) ≡ words (take n ws) ++ bigEndian 4 (getD ws n 0)
 words-suc ws n h = rw add-one at (words-take ws n h)
@@ -146,7 +146,7 @@ module _ (s : List ℕ) (at : ℕ) (ws : List ℕ) (fifteen : length ws ≡ 15) 
       let d = rw (words-suc ws n (omega arith), append-assoc (words (take n ws)) (bigEndian 4 (getD ws n 0)) l) at e in
       list-more n l h d (list-from n (bigEndian 4 (getD ws n 0) ++ l) (omega arith) d)
 
-pub nextList-written : (s : List ℕ) (at : ℕ) (c : Csrc) (l : List ℕ) → ListFits c → drop at s ≡ listBytes c ++ l
+pub nextList-written : (s : List ℕ) (at : ℕ) (c : Csrc) (l : List ℕ) → ListInRange c → drop at s ≡ listBytes c ++ l
     → nextList s (good at) (c .count) ≡ record { place = good (at + length (listBytes c)); list = c }
 nextList-written s at c l f e =
-    list-from s at (c .words) (f .sound .fifteen) (f .small) (c .count) l (f .sound .count) e ∙ rw (filled-sound c (f .sound))
+    list-from s at (c .words) (f .size) (f .each) (c .count) l (f .count) e ∙ rw (filled-same c f)

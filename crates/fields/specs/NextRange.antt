@@ -16,17 +16,13 @@ use Rattle.codes.specs.Difference.{hasCode}
 use Rattle.codes.specs.Reading.{Reading, accepted, refused, has, byteAt, wordAt, longAt, tripleAt, fieldAt, readByte, readWord, readLong, readDelta, readBy, valueIn, codeAt}
 use Rattle.codes.specs.RoundTrip.{left-after}
 use Rattle.packet.specs.declared.csrc.Csrc.{Csrc}
+use Rattle.headers.specs.BytesLaws.{allBytes-byteAt}
+use Rattle.headers.specs.Range.{ListInRange}
 use Rattle.fields.specs.declared.place.Place.{Place}
 use Rattle.fields.specs.declared.place.Got32.{Got32}
-use Rattle.fields.specs.Fits.{ListSound, ListFits}
+use Rattle.fields.specs.Fits.{ListSound}
 use Rattle.fields.specs.Place.{isGood, passed}
 use Rattle.fields.specs.Next.{next, taken, formed, readPayload, readVersion, nextByte, nextWord, nextLong, nextDelta16, nextDelta32, nextPayload, nextVersion, nextList}
-
--- an element of a list of bytes
-pub allBytes-at : (l : List ℕ) → AllBytes l → (i : ℕ) → getD l i 0 < 256
-allBytes-at [] a i = omega arith
-allBytes-at (b ∷ bs) (more h a) zero = h
-allBytes-at (b ∷ bs) (more h a) (suc i) = allBytes-at bs a i
 
 ---- next: what holds of every answer of the reader holds of the step
 
@@ -182,7 +178,7 @@ module _ (s : List ℕ) where
 -- where the bytes are bytes
 module _ (s : List ℕ) (all : AllBytes s) where
   pub byteAt-value : (at : ℕ) → byteAt s at < 256
-  byteAt-value at = allBytes-at s all at
+  byteAt-value at = allBytes-byteAt all at
 
   fieldAt-value : (at n v m : ℕ) → 0 < m → v < m → fieldAt s at n v .value < m
   fieldAt-value at n v m z h = chosen-value (λ x. x < m) (has s at n) (accepted v (at + n)) (refused 4) (λ e. h) z
@@ -279,27 +275,27 @@ module _ (s : List ℕ) (p : Place) where
   nextList-within h zero = h
   nextList-within h (suc n) = nextLong-within s (nextList s p n .place) (nextList-within h n) true
 
-  list-fifteen : (n : ℕ) → length (nextList s p n .list .words) ≡ 15
-  list-fifteen zero = refl
-  list-fifteen (suc n) = simp length-set (list-fifteen n)
+  list-size : (n : ℕ) → length (nextList s p n .list .words) ≡ 15
+  list-size zero = refl
+  list-size (suc n) = simp length-set (list-size n)
 
   -- one word more leaves one zero less
-  zeros-less : (ws : List ℕ) (n x : ℕ) → n < 15 → drop n ws ≡ replicate (15 - n) 0 → drop (suc n) (set ws n x) ≡ replicate (15 - suc n) 0
-  zeros-less ws n x h e =
+  blank-less : (ws : List ℕ) (n x : ℕ) → n < 15 → drop n ws ≡ replicate (15 - n) 0 → drop (suc n) (set ws n x) ≡ replicate (15 - suc n) 0
+  blank-less ws n x h e =
       let d = left-after ws n (replicate (15 - n) 0) e 1 in
       let z : 15 - n ≡ suc (15 - suc n) = omega arith in
       rw (drop-set-lt (suc n) ws n x (omega arith)) (rw (add-one, z) at d)
 
-  list-zeros : (n : ℕ) → n ≤ 15 → drop n (nextList s p n .list .words) ≡ replicate (15 - n) 0
-  list-zeros zero h = refl
-  list-zeros (suc n) h =
-      rw (nextList-count n) (zeros-less (nextList s p n .list .words) n (nextLong s (nextList s p n .place) true .field .value) (omega arith) (list-zeros n (omega arith)))
+  list-blank : (n : ℕ) → n ≤ 15 → drop n (nextList s p n .list .words) ≡ replicate (15 - n) 0
+  list-blank zero h = refl
+  list-blank (suc n) h =
+      rw (nextList-count n) (blank-less (nextList s p n .list .words) n (nextLong s (nextList s p n .place) true .field .value) (omega arith) (list-blank n (omega arith)))
 
   pub nextList-sound : (n : ℕ) → n ≤ 15 → ListSound (nextList s p n .list)
   nextList-sound n h = record {
     count = rw (nextList-count n) h;
-    fifteen = list-fifteen n;
-    zeros = rw (nextList-count n) (list-zeros n h);
+    size = list-size n;
+    blank = rw (nextList-count n) (list-blank n h);
   }
 
 -- every word of a list stays within its bound when one is set
@@ -321,5 +317,5 @@ module _ (s : List ℕ) (all : AllBytes s) (p : Place) where
   list-small (suc n) i =
       set-within (nextList s p n .list .words) (nextList s p n .list .count) (nextLong s (nextList s p n .place) true .field .value) (2 ^ 32) (nextLong-value s all (nextList s p n .place) true) (list-small n) i
 
-  pub nextList-fits : (n : ℕ) → n ≤ 15 → ListFits (nextList s p n .list)
-  nextList-fits n h = record { sound = nextList-sound s p n h; small = list-small n }
+  pub nextList-range : (n : ℕ) → n ≤ 15 → ListInRange (nextList s p n .list)
+  nextList-range n h = let l = nextList-sound s p n h in record { count = l .count; size = l .size; each = list-small n; blank = l .blank }

@@ -208,7 +208,7 @@ module _ (context link : ℕ) (carried : Bool) (h : Parts) (fits : CrFits link c
       let e4 = left-past s (2 + length K) L (D ++ rest) e3 in
       rw (
         nextWord-written s 2 carried (h .checksum) (L ++ (D ++ rest)) (fits .parts .checksum .blank) (fits .parts .checksum .fits) e2,
-        secondOf-bytes s (2 + length K) link h (D ++ rest) (omega (arith, fits .parts .list .sound .count)) (h .listed) unlisted-count (four-listed (h .listed) (crOwn h link) (fits .second)) e3,
+        secondOf-bytes s (2 + length K) link h (D ++ rest) (omega (arith, fits .parts .list .count)) (h .listed) unlisted-count (four-listed (h .listed) (crOwn h link) (fits .second)) e3,
         crRest-bytes s (2 + length K + length L) rest e4,
         length-crParts,
       )
@@ -234,7 +234,7 @@ module _ (context link : ℕ) (carried : Bool) (h : Parts) (fits : CrFits link c
       more k (more (byteOf-value (crFlags link h) (fits .small)) (
       allBytes-append (
       allBytes-append (allBytes-optional carried (allBytes-bigEndian 2 (h .checksum))) (
-      allBytes-optional (h .listed) (more (byteOf-value (crOwn h (h .csrc .count)) (omega (arith, fits .parts .list .sound .count))) none)
+      allBytes-optional (h .listed) (more (byteOf-value (crOwn h (h .csrc .count)) (omega (arith, fits .parts .list .count))) none)
       )
       ) (
       allBytes-append (allBytes-delta16 (h .did)) (

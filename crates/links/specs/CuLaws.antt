@@ -132,7 +132,7 @@ module _ (context link : ℕ) (carried : Bool) (h : Parts) (fits : CuFits link c
       let U = valueBytes h in
       let e2 = left-past s 0 (context ∷ byteOf (cuFlags link h) ∷ []) (g ∷ ((C ++ U) ++ rest)) e in
       let e3 = left-past s 2 (g ∷ []) ((C ++ U) ++ rest) e2 ∙ append-assoc C U rest in
-      rw (nextByte-written s 2 true g ((C ++ U) ++ rest) refl e2, flagsOf-byteOf (cuSecond h) (omega (arith, fits .parts .list .sound .count))) (cuRest-bytes s rest e3)
+      rw (nextByte-written s 2 true g ((C ++ U) ++ rest) refl e2, flagsOf-byteOf (cuSecond h) (omega (arith, fits .parts .list .count))) (cuRest-bytes s rest e3)
 
   -- what the decompressor reads of an encoded CU with F, followed by anything: the context number, the flag byte, the parts
   -- and the place of what comes after
@@ -164,5 +164,5 @@ module _ (context link : ℕ) (carried : Bool) (h : Parts) (fits : CuFits link c
   unfolding cuBytes
   allBytes-cuBytes k =
       more k (more (byteOf-value (cuFlags link h) (fits .small)) (
-      more (byteOf-value (cuSecond h) (omega (arith, fits .parts .list .sound .count))) (allBytes-append allBytes-changes allBytes-values)
+      more (byteOf-value (cuSecond h) (omega (arith, fits .parts .list .count))) (allBytes-append allBytes-changes allBytes-values)
       ))

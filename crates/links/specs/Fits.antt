@@ -7,7 +7,8 @@ use Rattle.codes.specs.Difference.{hasCode}
 use Rattle.packet.specs.Csrc.{noList}
 use Rattle.packet.specs.declared.header.RtpHeader.{RtpHeader}
 use Rattle.packet.specs.declared.parts.Parts.{Parts}
-use Rattle.fields.specs.Fits.{Sendable, ListFits}
+use Rattle.headers.specs.Range.{ListInRange}
+use Rattle.fields.specs.Fits.{Sendable}
 
 -- carried: the context carries the UDP checksum
 pub record PartsFit (carried : Bool) (h : Parts) : Type 0 where
@@ -20,7 +21,7 @@ pub record PartsFit (carried : Bool) (h : Parts) : Type 0 where
   pub dsn : Sendable 16 (h .dsn .sent) (h .dsn .value)
   pub dts : Sendable 32 (h .dts .sent) (h .dts .value)
   pub coded : h .dts .sent ≡ true → hasCode 32 (h .dts .value) ≡ true
-  pub list : ListFits (h .csrc)
+  pub list : ListInRange (h .csrc)
 
 -- rule 6.3: a CU has the list, and no difference of the sequence
 pub record CuFits (link : ℕ) (carried : Bool) (h : Parts) : Type 0 where
@@ -46,7 +47,7 @@ pub record HeaderFits (w : RtpHeader) : Type 0 where
   pub sequence : w .rtp .sequence < 2 ^ 16
   pub timestamp : w .rtp .timestamp < 2 ^ 32
   pub ssrc : w .ssrc < 2 ^ 32
-  pub list : ListFits (w .csrc)
+  pub list : ListInRange (w .csrc)
 
 -- rule 6.3: a CU without F has the RTP fields in its header alone
 pub record WholeFits (link : ℕ) (carried : Bool) (h : Parts) (w : RtpHeader) : Type 0 where

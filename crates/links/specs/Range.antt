@@ -173,7 +173,7 @@ module _ (s : List ℕ) where
   wholeOf-sound p f carried = record {
     payload = omega arith;
     coded = changesOf-coded p f carried;
-    list = record { count = omega arith; fifteen = refl; zeros = refl };
+    list = record { count = omega arith; size = refl; blank = refl };
   }
 
   pub wholeOf-header : (p : Place) (f : Flags) (carried : Bool) → HeaderSound (wholeOf s p f carried .header)

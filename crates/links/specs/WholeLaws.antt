@@ -16,7 +16,7 @@ use Rattle.bytes.specs.declared.flags.Flags.{Flags}
 use Rattle.bytes.specs.Flags.{byteOf, flagsOf, digit, bitAt}
 use Rattle.bytes.specs.FlagsLaws.{flagsOf-byteOf}
 use Rattle.bytes.specs.Put.{listBytes}
-use Rattle.fields.specs.Fits.{ListFits}
+use Rattle.headers.specs.Range.{ListInRange}
 use Rattle.fields.specs.Place.{good}
 use Rattle.fields.specs.NextLaws.{left-past, nextVersion-written, nextByte-written, nextWord-written, nextLong-written, nextList-written}
 use Rattle.links.specs.declared.cu.Changes.{Changes}
@@ -84,7 +84,7 @@ module _ (w : RtpHeader) (fit : HeaderFits w) where
       let e4 = left-past s (at + 1 + 1 + 2) B (C ++ (D ++ l)) e3 in
       let n : at + 1 + 1 + 2 + 4 + 4 ≡ at + 12 = omega arith in
       rw (
-        nextVersion-written s at (byteOf (rtpFirst w)) (rtpSecond w ∷ tail l) (version-two w (omega (arith, fit .list .sound .count))) (tail-long l) e,
+        nextVersion-written s at (byteOf (rtpFirst w)) (rtpSecond w ∷ tail l) (version-two w (omega (arith, fit .list .count))) (tail-long l) e,
         nextByte-written s (at + 1) true (rtpSecond w) (tail l) refl e1,
         nextWord-written s (at + 1 + 1) true (w .rtp .sequence) (B ++ (C ++ (D ++ l))) refl (fit .sequence) e2,
         nextLong-written s (at + 1 + 1 + 2) true (w .rtp .timestamp) (C ++ (D ++ l)) refl (fit .timestamp) e3,
@@ -115,7 +115,7 @@ module _ (w : RtpHeader) (fit : HeaderFits w) where
       let n : at + 12 + length (listBytes (w .csrc)) ≡ at + length (rtpBytes w) = omega (arith, length-rtpBytes) in
       rw (
         fixedOf-bytes s at l e0,
-        flagsOf-byteOf (rtpFirst w) (omega (arith, fit .list .sound .count)),
+        flagsOf-byteOf (rtpFirst w) (omega (arith, fit .list .count)),
         rtpRest-bytes s (at + 12) l e1,
         n,
       )
