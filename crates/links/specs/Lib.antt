@@ -13,3 +13,5 @@ pub mod Range
 pub mod Judgement
 pub mod Cs
 pub mod CsLaws
+pub mod Fh
+pub mod FhLaws

@@ -1,0 +1,12 @@
+use lib.Bits.{and-mask}
+use Rattle.links.proofs.fh.low_six.Statement.{statement}
+use Rattle.links.proofs.fh.low_six.Tie as tie
+use Rattle.links.proofs.fh.low_six.Reads as reads
+use Rattle.links.proofs.fh.low_six.Lts as lts
+
+-- src/fh.rt:57:1
+returns : tie.Need-returns
+returns c = and-mask (c .args .b) 6
+
+pub low-six-spec : {M : Type 1} → statement M
+low-six-spec = tie.close (tie.spec returns)
