@@ -4,5 +4,7 @@
 // copies the rest of the packet behind them. What is sent is decided above.
 // Read `cu::put_cu` first, and `specs/Size.antt` for the lengths.
 pub mod cr;
+pub mod cs;
 pub mod cu;
 pub mod delta;
+pub mod fh;
