@@ -15,3 +15,4 @@ pub mod Cs
 pub mod CsLaws
 pub mod Fh
 pub mod FhLaws
+pub mod Cases

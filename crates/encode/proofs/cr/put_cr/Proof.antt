@@ -3,24 +3,16 @@ use Rattle.bytes.specs.PutLaws.{wrote-then}
 use borrow.Author.Needs.{needs}
 use Rattle.encode.proofs.cr.put_cr.Statement.{statement}
 use Rattle.encode.proofs.cr.put_cr.Tie as tie
-use Rattle.encode.proofs.cr.put_cr.Reads as reads
-use Rattle.encode.proofs.cr.put_cr.Lts as lts
-use Rattle.encode.proofs.cr.put_deltas.Reads as put-deltas-reads
-use Rattle.encode.proofs.cr.put_head.Reads as put-head-reads
 
--- src/cr.rt:92:9
 put-head-requires : tie.Need-put-head-requires
 put-head-requires c κs = search needs
 
--- src/cr.rt:93:5
 put-deltas-requires : tie.Need-put-deltas-requires
 put-deltas-requires c κs = search needs
 
--- src/cr.rt:88:1
 same-length : tie.Need-same-length
 same-length c = search needs
 
--- src/cr.rt:88:1
 returns : tie.Need-returns
 unfolding crBytes
 returns c = wrote-then (c .before .before .before .before .before .before .put-head .ensures .1) (c .before .before .put-deltas .ensures .1)

@@ -3,33 +3,22 @@ use native.Mathlib.Omega.{arith}
 use borrow.Author.Needs.{needs}
 use Rattle.encode.proofs.cu.put_changes.Statement.{statement}
 use Rattle.encode.proofs.cu.put_changes.Tie as tie
-use Rattle.encode.proofs.cu.put_changes.Reads as reads
-use Rattle.encode.proofs.cu.put_changes.Lts as lts
-use Rattle.bytes.proofs.put.put16_if.Reads as put16-if-reads
-use Rattle.encode.proofs.delta.put_delta16.Reads as put-delta16-reads
-use Rattle.encode.proofs.delta.put_delta32.Reads as put-delta32-reads
 
--- src/cu.rt:96:9
 put16-if-requires : tie.Need-put16-if-requires
 put16-if-requires c κs = search needs
 
--- src/cu.rt:97:9
 put-delta16-requires : tie.Need-put-delta16-requires
 put-delta16-requires c κs = search needs
 
--- src/cu.rt:98:9
 put-delta32-requires : tie.Need-put-delta32-requires
 put-delta32-requires c κs = search needs
 
--- src/cu.rt:99:5
 put16-if-requires-2 : tie.Need-put16-if-requires-2
 put16-if-requires-2 c κs = search needs
 
--- src/cu.rt:92:1
 same-length : tie.Need-same-length
 same-length c = search needs
 
--- src/cu.rt:92:1
 returns : tie.Need-returns
 returns c = (
   omega arith,

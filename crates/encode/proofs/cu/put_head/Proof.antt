@@ -2,37 +2,25 @@ use Rattle.bytes.specs.PutLaws.{wrote-then}
 use borrow.Author.Needs.{needs}
 use Rattle.encode.proofs.cu.put_head.Statement.{statement}
 use Rattle.encode.proofs.cu.put_head.Tie as tie
-use Rattle.encode.proofs.cu.put_head.Reads as reads
-use Rattle.encode.proofs.cu.put_head.Lts as lts
-use Rattle.bytes.proofs.put.put8.Reads as put8-reads
-use Rattle.encode.proofs.cu.cu_flags.Reads as cu-flags-reads
-use Rattle.encode.proofs.cu.cu_second.Reads as cu-second-reads
 
--- src/cu.rt:85:9
 cu-flags-requires : tie.Need-cu-flags-requires
 cu-flags-requires c κs = search needs
 
--- src/cu.rt:86:9
 cu-second-requires : tie.Need-cu-second-requires
 cu-second-requires c κs = search needs
 
--- src/cu.rt:87:9
 put8-requires : tie.Need-put8-requires
 put8-requires c κs = search needs
 
--- src/cu.rt:88:9
 put8-requires-2 : tie.Need-put8-requires-2
 put8-requires-2 c κs = search needs
 
--- src/cu.rt:89:5
 put8-requires-3 : tie.Need-put8-requires-3
 put8-requires-3 c κs = search needs
 
--- src/cu.rt:81:1
 same-length : tie.Need-same-length
 same-length c = search needs
 
--- src/cu.rt:81:1
 returns : tie.Need-returns
 returns c = rw (c .before .before .before .before .before .before .before .before .before .before .before .before .before .cu-flags .ensures, c .before .before .before .before .before .before .before .before .before .before .before .before .cu-second .ensures) at
     (wrote-then (c .before .before .before .before .before .before .before .before .before .before .put8 .ensures) (wrote-then (c .before .before .before .before .before .before .put82 .ensures) (c .before .before .put83 .ensures)))

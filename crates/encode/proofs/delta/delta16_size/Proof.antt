@@ -1,24 +1,16 @@
 use borrow.Author.Needs.{needs}
 use Rattle.encode.proofs.delta.delta16_size.Statement.{statement}
 use Rattle.encode.proofs.delta.delta16_size.Tie as tie
-use Rattle.encode.proofs.delta.delta16_size.Reads as reads
-use Rattle.encode.proofs.delta.delta16_size.Lts as lts
-use Rattle.bytes.proofs.put.code_size.Reads as code-size-reads
-use Rattle.codes.proofs.code.code16.Reads as code16-reads
 
--- src/delta.rt:25:13
 code16-requires : tie.Need-code16-requires
 code16-requires c κs = search needs
 
--- src/delta.rt:26:9
 code-size-requires : tie.Need-code-size-requires
 code-size-requires c κs = search needs
 
--- src/delta.rt:26:9
 returns : tie.Need-returns
 returns c = rw (c .before .before .if1 .taken, ← c .before .code16 .ensures) (c .code-size .ensures)
 
--- src/delta.rt:21:1
 returns-2 : tie.Need-returns-2
 returns-2 c = search needs
 

@@ -1,24 +1,16 @@
 use borrow.Author.Needs.{needs}
 use Rattle.encode.proofs.delta.put_delta16.Statement.{statement}
 use Rattle.encode.proofs.delta.put_delta16.Tie as tie
-use Rattle.encode.proofs.delta.put_delta16.Reads as reads
-use Rattle.encode.proofs.delta.put_delta16.Lts as lts
-use Rattle.bytes.proofs.put.put_code_if.Reads as put-code-if-reads
-use Rattle.codes.proofs.code.code16.Reads as code16-reads
 
--- src/delta.rt:45:9
 code16-requires : tie.Need-code16-requires
 code16-requires c κs = search needs
 
--- src/delta.rt:46:5
 put-code-if-requires : tie.Need-put-code-if-requires
 put-code-if-requires c κs = rw (c .before .code16 .ensures) (c .before .before .before .pre)
 
--- src/delta.rt:41:1
 same-length : tie.Need-same-length
 same-length c = search needs
 
--- src/delta.rt:41:1
 returns : tie.Need-returns
 returns c = rw (c .before .before .before .before .code16 .ensures) at (c .before .before .put-code-if .ensures)
 

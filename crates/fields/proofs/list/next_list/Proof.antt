@@ -7,9 +7,6 @@ use mathlib.Core.Path.{_≡_, refl}
 use Prim.Native.Nat.{ℕ, _<_, _≤_, _-_, _+_}
 use Rattle.fields.proofs.list.next_list.Statement.{statement}
 use Rattle.fields.proofs.list.next_list.Tie as tie
-use Rattle.fields.proofs.list.next_list.Reads as reads
-use Rattle.fields.proofs.list.next_list.Lts as lts
-use Rattle.fields.proofs.next.next_long.Reads as next-long-reads
 
 abbrev Inv-loop : tie.InvT-loop
 Inv-loop s n words₀ at₀ i₀ words at i =
@@ -18,40 +15,31 @@ Inv-loop s n words₀ at₀ i₀ words at i =
 abbrev μ-loop : tie.MeasureT-loop
 μ-loop s n words₀ at₀ i₀ words at i = n - i
 
--- src/list.rt:17:5
 loop-holds : tie.Need-loop-holds Inv-loop μ-loop
 loop-holds c = (search needs, omega arith, refl, refl)
 
--- src/list.rt:18:13
 next-long-requires : tie.Need-next-long-requires Inv-loop μ-loop
 next-long-requires c κs = search needs
 
--- src/list.rt:20:15
 cast-words : tie.Need-cast-words Inv-loop μ-loop
 cast-words c = search needs
 
--- src/list.rt:20:9
 mul-words : tie.Need-mul-words Inv-loop μ-loop
 mul-words c = search needs
 
--- src/list.rt:20:9
 array-write-words : tie.Need-array-write-words Inv-loop μ-loop
 array-write-words c = search needs
 
--- src/list.rt:22:9
 add-i : tie.Need-add-i Inv-loop μ-loop
 add-i c = search needs
 
--- src/list.rt:17:5
 loop-less : tie.Need-loop-less Inv-loop μ-loop
 loop-less c = search needs
 
--- src/list.rt:17:5
 loop-again : tie.Need-loop-again Inv-loop μ-loop
 loop-again c = let l = c .before .before .before .before .loop in
     (l .inv .0, omega arith, simp length-set (l .inv .2), rw (add-one, ← l .inv .3, ← c .before .before .next-long .ensures))
 
--- src/list.rt:10:1
 returns : tie.Need-returns Inv-loop μ-loop
 returns c = let l = c .before .loop in
     let e : l .i ≡ c .before .before .before .args .n = omega arith in

@@ -7,22 +7,16 @@ use mathlib.Core.Path.{sym}
 use borrow.Author.Needs.{needs}
 use Rattle.fields.proofs.next.has_left.Statement.{statement}
 use Rattle.fields.proofs.next.has_left.Tie as tie
-use Rattle.fields.proofs.next.has_left.Reads as reads
-use Rattle.fields.proofs.next.has_left.Lts as lts
 
--- src/next.rt:128:9
 returns : tie.Need-returns
 returns c = let a = c .before .args in sym (lt-leb (a .at + a .n) (length (now (a .s))) (omega arith))
 
--- src/next.rt:130:8
 sub-if2 : tie.Need-sub-if2
 sub-if2 c = search needs
 
--- src/next.rt:131:9
 returns-2 : tie.Need-returns-2
 returns-2 c = let a = c .before .before .args in sym (lt-leb (a .at + a .n) (length (now (a .s))) (omega arith))
 
--- src/next.rt:124:1
 returns-3 : tie.Need-returns-3
 returns-3 c = let a = c .before .before .args in sym (le-leb (a .at + a .n) (length (now (a .s))) (omega arith))
 

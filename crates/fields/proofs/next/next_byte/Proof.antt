@@ -2,57 +2,39 @@ use Rattle.fields.specs.Next.{nextByte, next}
 use borrow.Author.Needs.{needs}
 use Rattle.fields.proofs.next.next_byte.Statement.{statement}
 use Rattle.fields.proofs.next.next_byte.Tie as tie
-use Rattle.fields.proofs.next.next_byte.Reads as reads
-use Rattle.fields.proofs.next.next_byte.Lts as lts
-use Rattle.codes.proofs.cursor.Cursor.byte.Reads as byte-reads
-use Rattle.fields.proofs.place.is_good.Reads as is-good-reads
-use Rattle.fields.proofs.place.none8.Reads as none8-reads
-use Rattle.fields.proofs.place.stop.Reads as stop-reads
-use Rattle.fields.proofs.place.there8.Reads as there8-reads
 
--- src/next.rt:30:8
 is-good-requires : tie.Need-is-good-requires
 is-good-requires c κs = search needs
 
--- src/next.rt:31:15
 byte-requires : tie.Need-byte-requires
 byte-requires c κs = search needs
 
--- src/next.rt:32:28
 enum-known-v : tie.Need-enum-known-v
 enum-known-v c = search needs
 
--- src/next.rt:32:39
 there8-requires : tie.Need-there8-requires
 there8-requires c κs = search needs
 
--- src/next.rt:33:46
 enum-told : tie.Need-enum-told
 enum-told c = search needs
 
--- src/next.rt:33:38
 stop-requires : tie.Need-stop-requires
 stop-requires c κs = search needs
 
--- src/next.rt:33:32
 none8-requires : tie.Need-none8-requires
 none8-requires c κs = search needs
 
--- src/next.rt:36:9
 none8-requires-2 : tie.Need-none8-requires-2
 none8-requires-2 c κs = search needs
 
--- src/next.rt:25:1
 returns : tie.Need-returns
 unfolding nextByte next
 returns c = rw (c .there8 .ensures, ← c .before .before .before .before .before .before .is-good .ensures, c .before .before .before .before .before .if1 .taken, ← c .before .before .before .before .byte .ensures, c .before .before .v .given .1)
 
--- src/next.rt:25:1
 returns-2 : tie.Need-returns-2
 unfolding nextByte next
 returns-2 c = rw (c .none8 .ensures, c .before .stop .ensures, ← c .before .before .before .before .before .before .is-good .ensures, c .before .before .before .before .before .if1 .taken, ← c .before .before .before .before .byte .ensures, c .before .before .enum-told .given .1)
 
--- src/next.rt:25:1
 returns-3 : tie.Need-returns-3
 unfolding nextByte next
 returns-3 c = rw (c .none82 .ensures, ← c .before .before .is-good .ensures, c .before .if1 .left)

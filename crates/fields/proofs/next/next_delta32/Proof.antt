@@ -2,74 +2,52 @@ use Rattle.fields.specs.Next.{nextDelta32, next}
 use borrow.Author.Needs.{needs}
 use Rattle.fields.proofs.next.next_delta32.Statement.{statement}
 use Rattle.fields.proofs.next.next_delta32.Tie as tie
-use Rattle.fields.proofs.next.next_delta32.Reads as reads
-use Rattle.fields.proofs.next.next_delta32.Lts as lts
-use Rattle.codes.proofs.cursor.Cursor.delta32.Reads as delta32-reads
-use Rattle.fields.proofs.place.is_good.Reads as is-good-reads
-use Rattle.fields.proofs.place.none32.Reads as none32-reads
-use Rattle.fields.proofs.place.stop.Reads as stop-reads
-use Rattle.fields.proofs.place.there32.Reads as there32-reads
 
--- src/next.rt:91:8
 is-good-requires : tie.Need-is-good-requires
 is-good-requires c κs = search needs
 
--- src/next.rt:92:15
 delta32-requires : tie.Need-delta32-requires
 delta32-requires c κs = search needs
 
--- src/next.rt:93:32
 enum-known-v : tie.Need-enum-known-v
 enum-known-v c = search needs
 
--- src/next.rt:93:43
 there32-requires : tie.Need-there32-requires
 there32-requires c κs = search needs
 
--- src/next.rt:94:50
 enum-told : tie.Need-enum-told
 enum-told c = search needs
 
--- src/next.rt:94:42
 stop-requires : tie.Need-stop-requires
 stop-requires c κs = search needs
 
--- src/next.rt:94:35
 none32-requires : tie.Need-none32-requires
 none32-requires c κs = search needs
 
--- src/next.rt:95:53
 enum-told-2 : tie.Need-enum-told-2
 enum-told-2 c = search needs
 
--- src/next.rt:95:45
 stop-requires-2 : tie.Need-stop-requires-2
 stop-requires-2 c κs = search needs
 
--- src/next.rt:95:38
 none32-requires-2 : tie.Need-none32-requires-2
 none32-requires-2 c κs = search needs
 
--- src/next.rt:98:9
 none32-requires-3 : tie.Need-none32-requires-3
 none32-requires-3 c κs = search needs
 
--- src/next.rt:86:1
 returns : tie.Need-returns
 unfolding nextDelta32 next
 returns c = rw (c .there32 .ensures, ← c .before .before .before .before .before .before .is-good .ensures, c .before .before .before .before .before .if1 .taken, ← c .before .before .before .before .delta32 .ensures, c .before .before .v .given .1)
 
--- src/next.rt:86:1
 returns-2 : tie.Need-returns-2
 unfolding nextDelta32 next
 returns-2 c = rw (c .none32 .ensures, c .before .stop .ensures, ← c .before .before .before .before .before .before .is-good .ensures, c .before .before .before .before .before .if1 .taken, ← c .before .before .before .before .delta32 .ensures, c .before .before .enum-told .given .1)
 
--- src/next.rt:86:1
 returns-3 : tie.Need-returns-3
 unfolding nextDelta32 next
 returns-3 c = rw (c .none322 .ensures, c .before .stop2 .ensures, ← c .before .before .before .before .before .before .is-good .ensures, c .before .before .before .before .before .if1 .taken, ← c .before .before .before .before .delta32 .ensures, c .before .before .enum-told2 .given .1)
 
--- src/next.rt:86:1
 returns-4 : tie.Need-returns-4
 unfolding nextDelta32 next
 returns-4 c = rw (c .none323 .ensures, ← c .before .before .is-good .ensures, c .before .if1 .left)

@@ -3,70 +3,49 @@ use borrow.Author.Tests.{lt-ltb, le-ltb}
 use borrow.Author.Needs.{needs}
 use Rattle.fields.proofs.next.next_payload.Statement.{statement}
 use Rattle.fields.proofs.next.next_payload.Tie as tie
-use Rattle.fields.proofs.next.next_payload.Reads as reads
-use Rattle.fields.proofs.next.next_payload.Lts as lts
-use Rattle.codes.proofs.cursor.Cursor.byte.Reads as byte-reads
-use Rattle.fields.proofs.place.is_good.Reads as is-good-reads
-use Rattle.fields.proofs.place.none8.Reads as none8-reads
-use Rattle.fields.proofs.place.stop.Reads as stop-reads
-use Rattle.fields.proofs.place.there8.Reads as there8-reads
 
--- src/next.rt:108:8
 is-good-requires : tie.Need-is-good-requires
 is-good-requires c κs = search needs
 
--- src/next.rt:109:15
 byte-requires : tie.Need-byte-requires
 byte-requires c κs = search needs
 
--- src/next.rt:110:28
 enum-known-v : tie.Need-enum-known-v
 enum-known-v c = search needs
 
--- src/next.rt:112:21
 there8-requires : tie.Need-there8-requires
 there8-requires c κs = search needs
 
--- src/next.rt:112:21
 returns : tie.Need-returns
 unfolding nextPayload readPayload next
 returns c = rw (c .there8 .ensures, ← c .before .before .before .before .before .before .before .is-good .ensures, c .before .before .before .before .before .before .if1 .taken, ← c .before .before .before .before .before .byte .ensures, c .before .before .before .v .given .1, lt-ltb _ 128 (c .before .if2 .taken))
 
--- src/next.rt:114:23
 stop-requires : tie.Need-stop-requires
 stop-requires c κs = search needs
 
--- src/next.rt:114:17
 none8-requires : tie.Need-none8-requires
 none8-requires c κs = search needs
 
--- src/next.rt:116:46
 enum-told : tie.Need-enum-told
 enum-told c = search needs
 
--- src/next.rt:116:38
 stop-requires-2 : tie.Need-stop-requires-2
 stop-requires-2 c κs = search needs
 
--- src/next.rt:116:32
 none8-requires-2 : tie.Need-none8-requires-2
 none8-requires-2 c κs = search needs
 
--- src/next.rt:119:9
 none8-requires-3 : tie.Need-none8-requires-3
 none8-requires-3 c κs = search needs
 
--- src/next.rt:103:1
 returns-2 : tie.Need-returns-2
 unfolding nextPayload readPayload next
 returns-2 c = rw (c .none8 .ensures, c .before .stop .ensures, ← c .before .before .before .before .before .before .before .before .is-good .ensures, c .before .before .before .before .before .before .before .if1 .taken, ← c .before .before .before .before .before .before .byte .ensures, c .before .before .before .before .v .given .1, le-ltb _ 128 (c .before .before .if2 .left))
 
--- src/next.rt:103:1
 returns-3 : tie.Need-returns-3
 unfolding nextPayload readPayload next
 returns-3 c = rw (c .none82 .ensures, c .before .stop2 .ensures, ← c .before .before .before .before .before .before .is-good .ensures, c .before .before .before .before .before .if1 .taken, ← c .before .before .before .before .byte .ensures, c .before .before .enum-told .given .1)
 
--- src/next.rt:103:1
 returns-4 : tie.Need-returns-4
 unfolding nextPayload readPayload next
 returns-4 c = rw (c .none83 .ensures, ← c .before .before .is-good .ensures, c .before .if1 .left)

@@ -2,57 +2,39 @@ use Rattle.fields.specs.Next.{nextWord, next}
 use borrow.Author.Needs.{needs}
 use Rattle.fields.proofs.next.next_word.Statement.{statement}
 use Rattle.fields.proofs.next.next_word.Tie as tie
-use Rattle.fields.proofs.next.next_word.Reads as reads
-use Rattle.fields.proofs.next.next_word.Lts as lts
-use Rattle.codes.proofs.cursor.Cursor.word.Reads as word-reads
-use Rattle.fields.proofs.place.is_good.Reads as is-good-reads
-use Rattle.fields.proofs.place.none16.Reads as none16-reads
-use Rattle.fields.proofs.place.stop.Reads as stop-reads
-use Rattle.fields.proofs.place.there16.Reads as there16-reads
 
--- src/next.rt:45:8
 is-good-requires : tie.Need-is-good-requires
 is-good-requires c κs = search needs
 
--- src/next.rt:46:15
 word-requires : tie.Need-word-requires
 word-requires c κs = search needs
 
--- src/next.rt:47:28
 enum-known-v : tie.Need-enum-known-v
 enum-known-v c = search needs
 
--- src/next.rt:47:39
 there16-requires : tie.Need-there16-requires
 there16-requires c κs = search needs
 
--- src/next.rt:48:47
 enum-told : tie.Need-enum-told
 enum-told c = search needs
 
--- src/next.rt:48:39
 stop-requires : tie.Need-stop-requires
 stop-requires c κs = search needs
 
--- src/next.rt:48:32
 none16-requires : tie.Need-none16-requires
 none16-requires c κs = search needs
 
--- src/next.rt:51:9
 none16-requires-2 : tie.Need-none16-requires-2
 none16-requires-2 c κs = search needs
 
--- src/next.rt:40:1
 returns : tie.Need-returns
 unfolding nextWord next
 returns c = rw (c .there16 .ensures, ← c .before .before .before .before .before .before .is-good .ensures, c .before .before .before .before .before .if1 .taken, ← c .before .before .before .before .word .ensures, c .before .before .v .given .1)
 
--- src/next.rt:40:1
 returns-2 : tie.Need-returns-2
 unfolding nextWord next
 returns-2 c = rw (c .none16 .ensures, c .before .stop .ensures, ← c .before .before .before .before .before .before .is-good .ensures, c .before .before .before .before .before .if1 .taken, ← c .before .before .before .before .word .ensures, c .before .before .enum-told .given .1)
 
--- src/next.rt:40:1
 returns-3 : tie.Need-returns-3
 unfolding nextWord next
 returns-3 c = rw (c .none162 .ensures, ← c .before .before .is-good .ensures, c .before .if1 .left)

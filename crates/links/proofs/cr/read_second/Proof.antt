@@ -4,25 +4,17 @@ use mathlib.Core.Path.{refl}
 use borrow.Author.Needs.{needs}
 use Rattle.links.proofs.cr.read_second.Statement.{statement}
 use Rattle.links.proofs.cr.read_second.Tie as tie
-use Rattle.links.proofs.cr.read_second.Reads as reads
-use Rattle.links.proofs.cr.read_second.Lts as lts
-use Rattle.bytes.proofs.flags.split.Reads as split-reads
-use Rattle.fields.proofs.next.next_byte.Reads as next-byte-reads
 
--- src/cr.rt:38:9
 next-byte-requires : tie.Need-next-byte-requires
 next-byte-requires c κs = search needs
 
--- src/cr.rt:41:9
 split-requires : tie.Need-split-requires
 split-requires c κs = search needs
 
--- src/cr.rt:43:9
 returns : tie.Need-returns
 unfolding secondOf secondWith
 returns c = rw (← c .before .before .before .before .next-byte .ensures, ← c .before .split .ensures .0, c .if1 .taken) (refl, c .before .split .ensures .1)
 
--- src/cr.rt:34:1
 returns-2 : tie.Need-returns-2
 unfolding secondOf secondWith
 returns-2 c = rw (← c .before .before .before .before .next-byte .ensures, ← c .before .split .ensures .0, c .if1 .left) (refl, omega arith)

@@ -6,53 +6,39 @@ use borrow.Author.Tests.{le-leb, lt-leb}
 use borrow.Author.Needs.{needs}
 use Rattle.links.proofs.cs.judge_record.Statement.{statement}
 use Rattle.links.proofs.cs.judge_record.Tie as tie
-use Rattle.links.proofs.cs.judge_record.Reads as reads
-use Rattle.links.proofs.cs.judge_record.Lts as lts
-use Rattle.bytes.proofs.flags.split.Reads as split-reads
 
--- src/cs.rt:14:18
 mul-at : tie.Need-mul-at
 mul-at c = search needs
 
--- src/cs.rt:14:14
 add-at : tie.Need-add-at
 add-at c = search needs
 
--- src/cs.rt:15:20
 shared-slice-read-if1 : tie.Need-shared-slice-read-if1
 shared-slice-read-if1 c = search needs
 
--- src/cs.rt:16:9
 returns : tie.Need-returns
 unfolding recordJudged
 returns c = sym (recordWith-context _ _ _ _ (c .if1 .taken))
 
--- src/cs.rt:18:21
 add-split : tie.Need-add-split
 add-split c = search needs
 
--- src/cs.rt:18:19
 shared-slice-read-split : tie.Need-shared-slice-read-split
 shared-slice-read-split c = search needs
 
--- src/cs.rt:18:9
 split-requires : tie.Need-split-requires
 split-requires c κs = search needs
 
--- src/cs.rt:19:35
 add-if2 : tie.Need-add-if2
 add-if2 c = search needs
 
--- src/cs.rt:19:33
 shared-slice-read-if2 : tie.Need-shared-slice-read-if2
 shared-slice-read-if2 c = search needs
 
--- src/cs.rt:20:9
 returns-2 : tie.Need-returns-2
 unfolding recordJudged
 returns-2 c = rw (← c .before .before .before .before .split .ensures .0) (sym (recordWith-bits _ _ (c .before .before .before .before .split .result) _ (c .before .before .before .before .before .before .if1 .left) true (c .if2 .taken)))
 
--- src/cs.rt:10:1
 returns-3 : tie.Need-returns-3
 unfolding recordJudged
 returns-3 c = rw (← c .before .before .before .before .split .ensures .0) (sym (recordWith-bits _ _ (c .before .before .before .before .split .result) _ (c .before .before .before .before .before .before .if1 .left) false (c .if2 .left)))

@@ -7,9 +7,6 @@ use mathlib.Core.Path.{_≡_, refl, sym, _∙_}
 use Prim.Native.Nat.{ℕ, _≤_, _-_, _+_}
 use Rattle.links.proofs.cs.judge_records.Statement.{statement}
 use Rattle.links.proofs.cs.judge_records.Tie as tie
-use Rattle.links.proofs.cs.judge_records.Reads as reads
-use Rattle.links.proofs.cs.judge_records.Lts as lts
-use Rattle.links.proofs.cs.judge_record.Reads as judge-record-reads
 
 abbrev Inv-loop : tie.InvT-loop
 Inv-loop contexts s n i₀ i = (i ≤ n) × (recordsJudged contexts s 0 n ≡ recordsJudged contexts s i (n - i))
@@ -17,58 +14,46 @@ Inv-loop contexts s n i₀ i = (i ≤ n) × (recordsJudged contexts s 0 n ≡ re
 abbrev μ-loop : tie.MeasureT-loop
 μ-loop contexts s n i₀ i = n - i
 
--- src/cs.rt:31:5
 loop-holds : tie.Need-loop-holds Inv-loop μ-loop
 loop-holds c = (omega arith, rw sub-zero)
 
--- src/cs.rt:32:15
 judge-record-requires : tie.Need-judge-record-requires Inv-loop μ-loop
 judge-record-requires c κs = search needs
 
 enum-told : tie.Need-enum-told Inv-loop μ-loop
 enum-told c = search needs
 
--- src/cs.rt:35:17
 enum-told-2 : tie.Need-enum-told-2 Inv-loop μ-loop
 enum-told-2 c = search needs
 
--- src/cs.rt:35:17
 returns : tie.Need-returns Inv-loop μ-loop
 returns c = let l = c .before .before .before .before .loop in
     rw (l .inv .1, recordsJudged-more _ _ (l .i) _ (c .before .before .before .loop-test .taken), ← c .before .before .judge-record .ensures, c .enum-told2 .given .1)
 
--- src/cs.rt:38:17
 enum-told-3 : tie.Need-enum-told-3 Inv-loop μ-loop
 enum-told-3 c = search needs
 
--- src/cs.rt:38:17
 returns-2 : tie.Need-returns-2 Inv-loop μ-loop
 returns-2 c = let l = c .before .before .before .before .loop in
     rw (l .inv .1, recordsJudged-more _ _ (l .i) _ (c .before .before .before .loop-test .taken), ← c .before .before .judge-record .ensures, c .enum-told3 .given .1)
 
--- src/cs.rt:41:17
 enum-told-4 : tie.Need-enum-told-4 Inv-loop μ-loop
 enum-told-4 c = search needs
 
--- src/cs.rt:41:17
 returns-3 : tie.Need-returns-3 Inv-loop μ-loop
 returns-3 c = let l = c .before .before .before .before .loop in
     rw (l .inv .1, recordsJudged-more _ _ (l .i) _ (c .before .before .before .loop-test .taken), ← c .before .before .judge-record .ensures, c .enum-told4 .given .1)
 
--- src/cs.rt:44:9
 add-i : tie.Need-add-i Inv-loop μ-loop
 add-i c = search needs
 
--- src/cs.rt:31:5
 loop-less : tie.Need-loop-less Inv-loop μ-loop
 loop-less c = search needs
 
--- src/cs.rt:31:5
 loop-again : tie.Need-loop-again Inv-loop μ-loop
 loop-again c = let l = c .before .before .before .before .loop in
     (omega arith, l .inv .1 ∙ rw (recordsJudged-more _ _ (l .i) _ (c .before .before .before .loop-test .taken), ← c .before .before .judge-record .ensures, c .enum-told .given .1))
 
--- src/cs.rt:26:1
 returns-4 : tie.Need-returns-4 Inv-loop μ-loop
 returns-4 c = let l = c .before .loop in
     rw (l .inv .1, recordsJudged-none _ _ (l .i) _ (c .loop-test .left))

@@ -4,47 +4,34 @@ use borrow.Author.Tests.{lt-ltb, le-ltb}
 use borrow.Author.Needs.{needs}
 use Rattle.links.proofs.cs.judge_request.Statement.{statement}
 use Rattle.links.proofs.cs.judge_request.Tie as tie
-use Rattle.links.proofs.cs.judge_request.Reads as reads
-use Rattle.links.proofs.cs.judge_request.Lts as lts
-use Rattle.links.proofs.cs.judge_records.Reads as judge-records-reads
-use Rattle.links.proofs.cs.record_count.Reads as record-count-reads
 
--- src/cs.rt:68:9
 returns : tie.Need-returns
 unfolding requestJudged
 returns c = rw (lt-ltb _ _ (c .if1 .taken))
 
--- src/cs.rt:70:9
 record-count-requires : tie.Need-record-count-requires
 record-count-requires c κs = search needs
 
--- src/cs.rt:71:9
 shared-slice-read-if2 : tie.Need-shared-slice-read-if2
 shared-slice-read-if2 c = search needs
 
--- src/cs.rt:72:9
 returns-2 : tie.Need-returns-2
 unfolding requestJudged
 returns-2 c = rw (le-ltb _ _ (c .before .before .before .if1 .left), ← c .before .before .record-count .ensures .0, c .if2 .taken)
 
--- src/cs.rt:74:23
 mul-if3 : tie.Need-mul-if3
 mul-if3 c = search needs
 
--- src/cs.rt:74:19
 add-if3 : tie.Need-add-if3
 add-if3 c = search needs
 
--- src/cs.rt:75:9
 returns-3 : tie.Need-returns-3
 unfolding requestJudged
 returns-3 c = rw (le-ltb _ _ (c .before .before .before .before .if1 .left), ← c .before .before .before .record-count .ensures .0, c .before .if2 .left, ne-eqb _ _ (c .if3 .taken))
 
--- src/cs.rt:77:5
 judge-records-requires : tie.Need-judge-records-requires
 judge-records-requires c κs = search needs
 
--- src/cs.rt:64:1
 returns-4 : tie.Need-returns-4
 unfolding requestJudged
 returns-4 c = rw (le-ltb _ _ (c .before .before .before .before .before .if1 .left), ← c .before .before .before .before .record-count .ensures .0, c .before .before .if2 .left, eq-eqb _ _ (c .before .if3 .left)) (c .judge-records .ensures)

@@ -1,31 +1,22 @@
 use borrow.Author.Needs.{needs}
 use Rattle.links.proofs.cs.record_asks.Statement.{statement}
 use Rattle.links.proofs.cs.record_asks.Tie as tie
-use Rattle.links.proofs.cs.record_asks.Reads as reads
-use Rattle.links.proofs.cs.record_asks.Lts as lts
-use Rattle.bytes.proofs.flags.split.Reads as split-reads
 
--- src/cs.rt:86:25
 mul-split : tie.Need-mul-split
 mul-split c = search needs
 
--- src/cs.rt:86:21
 add-split : tie.Need-add-split
 add-split c = search needs
 
--- src/cs.rt:86:21
 add-split-2 : tie.Need-add-split-2
 add-split-2 c = search needs
 
--- src/cs.rt:86:19
 shared-slice-read-split : tie.Need-shared-slice-read-split
 shared-slice-read-split c = search needs
 
--- src/cs.rt:86:9
 split-requires : tie.Need-split-requires
 split-requires c κs = search needs
 
--- src/cs.rt:82:1
 returns : tie.Need-returns
 returns c = rw (c .split .ensures .0)
 

@@ -2,19 +2,13 @@ use Rattle.links.specs.Fh.{fieldsForm}
 use borrow.Author.Needs.{needs}
 use Rattle.links.proofs.fh.fields_form.Statement.{statement}
 use Rattle.links.proofs.fh.fields_form.Tie as tie
-use Rattle.links.proofs.fh.fields_form.Reads as reads
-use Rattle.links.proofs.fh.fields_form.Lts as lts
-use Rattle.headers.proofs.place.word_at.Reads as word-at-reads
 
--- src/fh.rt:31:6
 shared-slice-read-result : tie.Need-shared-slice-read-result
 shared-slice-read-result c = search needs
 
--- src/fh.rt:31:25
 word-at-requires : tie.Need-word-at-requires
 word-at-requires c κs = search needs
 
--- src/fh.rt:27:1
 returns : tie.Need-returns
 unfolding fieldsForm
 returns c = rw (c .word-at .ensures)

@@ -3,71 +3,50 @@ use borrow.Author.Tests.{lt-ltb, le-ltb, lt-leb, le-leb}
 use borrow.Author.Needs.{needs}
 use Rattle.links.proofs.fh.judge_fh.Statement.{statement}
 use Rattle.links.proofs.fh.judge_fh.Tie as tie
-use Rattle.links.proofs.fh.judge_fh.Reads as reads
-use Rattle.links.proofs.fh.judge_fh.Lts as lts
-use Rattle.headers.proofs.form.fixed_form.Reads as fixed-form-reads
-use Rattle.headers.proofs.form.ip_checksum_of.Reads as ip-checksum-of-reads
-use Rattle.headers.proofs.place.count_at.Reads as count-at-reads
-use Rattle.headers.proofs.place.word_at.Reads as word-at-reads
-use Rattle.links.proofs.fh.fields_form.Reads as fields-form-reads
 
--- src/fh.rt:41:9
 returns : tie.Need-returns
 unfolding fhJudged
 returns c = rw (lt-ltb _ 40 (c .if1 .taken))
 
--- src/fh.rt:43:20
 shared-slice-read-if2 : tie.Need-shared-slice-read-if2
 shared-slice-read-if2 c = search needs
 
--- src/fh.rt:44:9
 returns-2 : tie.Need-returns-2
 unfolding fhJudged
 returns-2 c = rw (le-ltb _ 40 (c .before .before .if1 .left), le-leb _ _ (c .if2 .taken))
 
--- src/fh.rt:46:17
 word-at-requires : tie.Need-word-at-requires
 word-at-requires c κs = search needs
 
--- src/fh.rt:46:53
 cast-ip-checksum-of : tie.Need-cast-ip-checksum-of
 cast-ip-checksum-of c = search needs
 
--- src/fh.rt:46:35
 ip-checksum-of-requires : tie.Need-ip-checksum-of-requires
 ip-checksum-of-requires c κs = search needs
 
--- src/fh.rt:47:10
 fixed-form-requires : tie.Need-fixed-form-requires
 fixed-form-requires c κs = search needs
 
--- src/fh.rt:47:26
 fields-form-requires : tie.Need-fields-form-requires
 fields-form-requires c κs = search needs
 
--- src/fh.rt:48:9
 returns-3 : tie.Need-returns-3
 unfolding fhJudged
 returns-3 c = rw (le-ltb _ 40 (c .before .before .before .before .before .before .before .if1 .left), lt-leb _ _ (c .before .before .before .before .before .if2 .left), ← c .before .before .fixed-form .ensures, ← c .before .fields-form .ensures, ← c .before .before .before .before .word-at .ensures, ← c .before .before .before .ip-checksum-of .ensures, c .if3 .taken)
 
--- src/fh.rt:50:21
 count-at-requires : tie.Need-count-at-requires
 count-at-requires c κs = search needs
 
--- src/fh.rt:50:17
 mul-if4 : tie.Need-mul-if4
 mul-if4 c = search needs
 
--- src/fh.rt:50:12
 add-if4 : tie.Need-add-if4
 add-if4 c = search needs
 
--- src/fh.rt:51:9
 returns-4 : tie.Need-returns-4
 unfolding fhJudged
 returns-4 c = rw (le-ltb _ 40 (c .before .before .before .before .before .before .before .before .before .if1 .left), lt-leb _ _ (c .before .before .before .before .before .before .before .if2 .left), ← c .before .before .before .before .fixed-form .ensures, ← c .before .before .before .fields-form .ensures, ← c .before .before .before .before .before .before .word-at .ensures, ← c .before .before .before .before .before .ip-checksum-of .ensures, c .before .before .if3 .left, ← c .before .count-at .ensures .0, lt-ltb _ _ (c .if4 .taken))
 
--- src/fh.rt:35:1
 returns-5 : tie.Need-returns-5
 unfolding fhJudged
 returns-5 c = rw (le-ltb _ 40 (c .before .before .before .before .before .before .before .before .before .if1 .left), lt-leb _ _ (c .before .before .before .before .before .before .before .if2 .left), ← c .before .before .before .before .fixed-form .ensures, ← c .before .before .before .fields-form .ensures, ← c .before .before .before .before .before .before .word-at .ensures, ← c .before .before .before .before .before .ip-checksum-of .ensures, c .before .before .if3 .left, ← c .before .count-at .ensures .0, le-ltb _ _ (c .if4 .left))

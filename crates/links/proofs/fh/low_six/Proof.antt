@@ -1,10 +1,7 @@
 use lib.Bits.{and-mask}
 use Rattle.links.proofs.fh.low_six.Statement.{statement}
 use Rattle.links.proofs.fh.low_six.Tie as tie
-use Rattle.links.proofs.fh.low_six.Reads as reads
-use Rattle.links.proofs.fh.low_six.Lts as lts
 
--- src/fh.rt:57:1
 returns : tie.Need-returns
 returns c = and-mask (c .args .b) 6
 

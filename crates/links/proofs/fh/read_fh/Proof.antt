@@ -2,50 +2,34 @@ use Rattle.links.specs.Fh.{fhOf}
 use borrow.Author.Needs.{needs}
 use Rattle.links.proofs.fh.read_fh.Statement.{statement}
 use Rattle.links.proofs.fh.read_fh.Tie as tie
-use Rattle.links.proofs.fh.read_fh.Reads as reads
-use Rattle.links.proofs.fh.read_fh.Lts as lts
-use Rattle.bytes.proofs.flags.split.Reads as split-reads
-use Rattle.headers.proofs.place.count_at.Reads as count-at-reads
-use Rattle.headers.proofs.read.read_header.Reads as read-header-reads
-use Rattle.links.proofs.fh.low_six.Reads as low-six-reads
 
--- src/fh.rt:68:9
 read-header-requires : tie.Need-read-header-requires
 read-header-requires c κs = search needs
 
--- src/fh.rt:69:30
 shared-slice-read-low-six : tie.Need-shared-slice-read-low-six
 shared-slice-read-low-six c = search needs
 
--- src/fh.rt:69:9
 low-six-requires : tie.Need-low-six-requires
 low-six-requires c κs = search needs
 
--- src/fh.rt:70:19
 shared-slice-read-split : tie.Need-shared-slice-read-split
 shared-slice-read-split c = search needs
 
--- src/fh.rt:70:9
 split-requires : tie.Need-split-requires
 split-requires c κs = search needs
 
--- src/fh.rt:71:9
 count-at-requires : tie.Need-count-at-requires
 count-at-requires c κs = search needs
 
--- src/fh.rt:74:18
 shared-slice-read-t7 : tie.Need-shared-slice-read-t7
 shared-slice-read-t7 c = search needs
 
--- src/fh.rt:77:21
 mul-t10 : tie.Need-mul-t10
 mul-t10 c = search needs
 
--- src/fh.rt:77:16
 add-t11 : tie.Need-add-t11
 add-t11 c = search needs
 
--- src/fh.rt:64:1
 returns : tie.Need-returns
 unfolding fhOf
 returns c = rw (c .before .before .before .before .before .before .read-header .ensures, c .before .before .before .before .low-six .ensures, c .before .before .split .ensures .0, c .before .count-at .ensures .0)

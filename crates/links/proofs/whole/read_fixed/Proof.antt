@@ -2,34 +2,22 @@ use Rattle.links.specs.Whole.{fixedOf}
 use borrow.Author.Needs.{needs}
 use Rattle.links.proofs.whole.read_fixed.Statement.{statement}
 use Rattle.links.proofs.whole.read_fixed.Tie as tie
-use Rattle.links.proofs.whole.read_fixed.Reads as reads
-use Rattle.links.proofs.whole.read_fixed.Lts as lts
-use Rattle.fields.proofs.next.next_byte.Reads as next-byte-reads
-use Rattle.fields.proofs.next.next_long.Reads as next-long-reads
-use Rattle.fields.proofs.next.next_version.Reads as next-version-reads
-use Rattle.fields.proofs.next.next_word.Reads as next-word-reads
 
--- src/whole.rt:50:9
 next-version-requires : tie.Need-next-version-requires
 next-version-requires c κs = search needs
 
--- src/whole.rt:51:9
 next-byte-requires : tie.Need-next-byte-requires
 next-byte-requires c κs = search needs
 
--- src/whole.rt:52:9
 next-word-requires : tie.Need-next-word-requires
 next-word-requires c κs = search needs
 
--- src/whole.rt:53:9
 next-long-requires : tie.Need-next-long-requires
 next-long-requires c κs = search needs
 
--- src/whole.rt:54:9
 next-long-requires-2 : tie.Need-next-long-requires-2
 next-long-requires-2 c κs = search needs
 
--- src/whole.rt:47:1
 returns : tie.Need-returns
 unfolding fixedOf
 returns c = rw (c .before .before .before .before .before .before .next-long2 .ensures, c .before .before .before .before .before .before .before .next-long .ensures, c .before .before .before .before .before .before .before .before .next-word .ensures, c .before .before .before .before .before .before .before .before .before .next-byte .ensures, c .before .before .before .before .before .before .before .before .before .before .next-version .ensures)
