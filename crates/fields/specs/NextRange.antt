@@ -298,6 +298,11 @@ module _ (s : List ℕ) (p : Place) where
     blank = rw (nextList-count n) (list-blank n h);
   }
 
+pub zero-words : (n i : ℕ) → getD (replicate n 0) i 0 < 2 ^ 32
+zero-words zero i = omega arith
+zero-words (suc n) zero = omega arith
+zero-words (suc n) (suc i) = zero-words n i
+
 -- every word of a list stays within its bound when one is set
 set-within : (ws : List ℕ) (n x m : ℕ) → x < m → ((i : ℕ) → getD ws i 0 < m) → (i : ℕ) → getD (set ws n x) i 0 < m
 set-within [] n x m h k i = k i
@@ -307,11 +312,6 @@ set-within (w ∷ ws) (suc n) x m h k zero = k 0
 set-within (w ∷ ws) (suc n) x m h k (suc i) = set-within ws n x m h (λ j. k (suc j)) i
 
 module _ (s : List ℕ) (all : AllBytes s) (p : Place) where
-  zero-words : (n i : ℕ) → getD (replicate n 0) i 0 < 2 ^ 32
-  zero-words zero i = omega arith
-  zero-words (suc n) zero = omega arith
-  zero-words (suc n) (suc i) = zero-words n i
-
   list-small : (n i : ℕ) → getD (nextList s p n .list .words) i 0 < 2 ^ 32
   list-small zero i = zero-words 15 i
   list-small (suc n) i =

@@ -25,6 +25,7 @@ use Rattle.headers.specs.Cases.{sample}
 use Rattle.fields.specs.declared.place.Place.{Place}
 use Rattle.fields.specs.Fits.{Sendable}
 use Rattle.fields.specs.Place.{numberOf, good}
+use Rattle.fields.specs.NextRange.{zero-words}
 use Rattle.fields.specs.Next.{next, nextByte, nextWord, nextLong, nextDelta16, nextDelta32, nextPayload, readPayload}
 use Rattle.links.specs.Sent.{none8, none16, none32}
 use Rattle.links.specs.Fits.{PartsFit, CuFits, CrFits}
@@ -129,11 +130,6 @@ unfolding cases codeOf readBy readByte readWord readLong difference sample fhByt
 cases-hold = refl
 
 ---- the round trips speak of the cases
-
-zero-words : (n i : ℕ) → getD (replicate n 0) i 0 < 2 ^ 32
-zero-words zero i = omega arith
-zero-words (suc n) zero = omega arith
-zero-words (suc n) (suc i) = zero-words n i
 
 no-list : ListInRange noList
 no-list = record { count = omega arith; size = refl; each = zero-words 15; blank = refl }

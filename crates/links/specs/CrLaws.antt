@@ -183,12 +183,7 @@ module _ (context link : ℕ) (carried : Bool) (h : Parts) (fits : CrFits link c
 
   length-crParts : 2 + length (optional carried (bigEndian 2 (h .checksum))) + length (secondBytes (h .listed) h) + length (deltaBytes h) ≡ length (crBytes context link carried h)
   unfolding crBytes
-  length-crParts =
-      let K = optional carried (bigEndian 2 (h .checksum)) in
-      let L = secondBytes (h .listed) h in
-      let n = length-append (K ++ L) (deltaBytes h) in
-      let k = length-append K L in
-      omega arith
+  length-crParts = simp length-append (omega arith)
 
   append-three : (A B C l : List ℕ) → ((A ++ B) ++ C) ++ l ≡ A ++ (B ++ (C ++ l))
   append-three A B C l = rw (append-assoc (A ++ B) C l, append-assoc A B (C ++ l))

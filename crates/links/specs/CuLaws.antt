@@ -108,7 +108,7 @@ cu-same h d l a at = λ i. record {
 module _ (context link : ℕ) (carried : Bool) (h : Parts) (fits : CuFits link carried h) where
   length-cuParts : 3 + length (changeBytes carried h) + length (valueBytes h) ≡ length (cuBytes context link carried h)
   unfolding cuBytes
-  length-cuParts = let n = length-append (changeBytes carried h) (valueBytes h) in omega arith
+  length-cuParts = simp length-append (omega arith)
 
   cuRest-bytes : (s l : List ℕ) → drop 3 s ≡ changeBytes carried h ++ (valueBytes h ++ l)
       → cuRest s (good 3) (cuFlags link h) (cuSecond h) carried ≡ record { place = good (length (cuBytes context link carried h)); parts = h }

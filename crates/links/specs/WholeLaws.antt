@@ -40,8 +40,7 @@ marker-back true payload h = let q : (1 * 128 + payload) / 128 % 2 ≡ 1 = omega
 marker-back false payload h = let q : (0 * 128 + payload) / 128 % 2 ≡ 0 = omega arith in rw q
 
 payload-back : (m : Bool) (payload : ℕ) → payload < 128 → (digit m * 128 + payload) % 128 ≡ payload
-payload-back true payload h = omega arith
-payload-back false payload h = omega arith
+payload-back m payload h = omega arith
 
 -- the version of a first byte with the top bits 1, 0
 version-two : (w : RtpHeader) → w .csrc .count < 16 → byteOf (rtpFirst w) / 64 ≡ 2
