@@ -1,9 +1,9 @@
 -- Iarwennol. Laws of sizes: each is the length of its layout's bytes. Assume nothing.
 -- Used by the calls, and by the theorem on lists of calls (crtp).
-use Prim.Native.Nat.{ℕ, _+_, _*_, _≤_}
+use Prim.Native.Nat.{ℕ, _≤_}
 use mathlib.Core.Path.{_≡_, refl}
 use mathlib.Core.Bool.{Bool, true, false, cond}
-use mathlib.Core.List.{List, [], _∷_, _++_}
+use mathlib.Core.List.{List, [], _∷_}
 use native.Mathlib.Omega.{arith}
 use lib.ListN.{length, length-append}
 use Rattle.codes.specs.Bytes.{bigEndian}

@@ -3,3 +3,4 @@ pub mod Place
 pub mod Next
 pub mod NextLaws
 pub mod NextRange
+pub mod FlagsRange

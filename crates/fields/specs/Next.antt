@@ -1,11 +1,11 @@
 -- Iarwennol. The steps of a reading from left to right (rules 3.3, 3.4): one definition, `next`, over what reads the field.
 -- Used by the readers of the link layouts (links).
-use Prim.Native.Nat.{ℕ, zero, suc, _+_, _/_}
-use mathlib.Core.Bool.{Bool, true, false, cond, _&&_}
+use Prim.Native.Nat.{ℕ, zero, suc, _/_}
+use mathlib.Core.Bool.{Bool, true, cond, _&&_}
 use mathlib.Core.List.{List}
 use lib.Dec.{eqb, ltb}
 use lib.ListN.{set}
-use Rattle.codes.specs.Reading.{Reading, accepted, refused, has, readByte, readWord, readLong, readDelta}
+use Rattle.codes.specs.Reading.{Reading, refused, has, readByte, readWord, readLong, readDelta}
 use Rattle.packet.specs.Csrc.{noList}
 use Rattle.packet.specs.declared.csrc.Csrc.{Csrc}
 use Rattle.fields.specs.declared.place.Place.{Place}

@@ -1,25 +1,23 @@
 -- Iarwennol. What a step can give, whatever the bytes: a reading never stands past the end, and its values are in range. Assumes nothing.
 -- Used by the ranges of what the link layouts' readers give (links).
-use Prim.Native.Nat.{ℕ, zero, suc, _+_, _-_, _*_, _/_, _%_, _^_, _≤_, _<_}
-use mathlib.Core.Path.{_≡_, refl, sym, ap, _∙_}
-use mathlib.Core.Bool.{Bool, true, false, cond, _&&_, _||_, and-eq-true-iff, or-true}
-use mathlib.Core.List.{List, [], _∷_, _++_}
+use Prim.Native.Nat.{ℕ, zero, suc, _+_, _-_, _/_, _%_, _^_, _≤_, _<_}
+use mathlib.Core.Path.{_≡_, refl}
+use mathlib.Core.Bool.{Bool, true, false, cond, _&&_, and-eq-true-iff, or-true}
+use mathlib.Core.List.{List, [], _∷_}
 use native.Mathlib.Numerals.{add-one}
 use native.Mathlib.Omega.{arith}
-use borrow.Author.Tests.{lt-ltb, le-leb, ltb-true, leb-true, eqb-true}
+use borrow.Author.Tests.{lt-ltb, le-leb, ltb-true, leb-true}
 use lib.Dec.{eqb, leb, ltb}
 use lib.ListN.{length, getD, set, drop, replicate, length-set}
 use lib.Seq.{drop-set-lt}
-use Rattle.codes.specs.Bytes.{AllBytes, none, more}
+use Rattle.codes.specs.Bytes.{AllBytes}
 use Rattle.codes.specs.Code.{Row, rows, among}
 use Rattle.codes.specs.Difference.{hasCode}
 use Rattle.codes.specs.Reading.{Reading, accepted, refused, has, byteAt, wordAt, longAt, tripleAt, fieldAt, readByte, readWord, readLong, readDelta, readBy, valueIn, codeAt}
 use Rattle.codes.specs.RoundTrip.{left-after}
-use Rattle.packet.specs.declared.csrc.Csrc.{Csrc}
 use Rattle.headers.specs.BytesLaws.{allBytes-byteAt}
 use Rattle.headers.specs.Range.{ListInRange}
 use Rattle.fields.specs.declared.place.Place.{Place}
-use Rattle.fields.specs.declared.place.Got32.{Got32}
 use Rattle.fields.specs.Fits.{ListSound}
 use Rattle.fields.specs.Place.{isGood, passed}
 use Rattle.fields.specs.Next.{next, taken, formed, readPayload, readVersion, nextByte, nextWord, nextLong, nextDelta16, nextDelta32, nextPayload, nextVersion, nextList}

@@ -1,17 +1,12 @@
 // Prints the bytes of the worked cases of the link layouts, as the functions of `encode` write them.
 //
 // What it prints is compared with the rules' cases (11.1), which were written down by hand.
-ghost use mathlib.Core.Path.{_≡_};
 ghost use Prim.Native.Nat.{_≤_};
 ghost use Rattle.headers.specs.Range.{Narrow};
 use encode::cr::cr_size;
 use encode::cr::put_cr;
-use encode::cs::put_count;
-use encode::cs::put_record;
 use encode::cu::cu_size;
 use encode::cu::put_cu;
-use encode::fh::fh_size;
-use encode::fh::put_fh;
 use packet::csrc::no_list;
 use packet::header::Flow;
 use packet::header::Header;
@@ -22,6 +17,10 @@ use packet::sent::Sent8;
 use packet::sent::Sent16;
 use packet::sent::sent_if16;
 use packet::sent::sent_if32;
+use refresh::cs::put_count;
+use refresh::cs::put_record;
+use refresh::fh::fh_size;
+use refresh::fh::put_fh;
 
 fn text(s: &[u8]) {
     io::write_all(1, s);

@@ -1,13 +1,13 @@
 -- Iarwennol. The worked cases (rule 11.1): one table under one statement, the differences' own table among them. Assumes nothing.
 -- Each layout is held against its bytes in both directions; the parts below are shown to fit, so that the round trips speak of them.
-use Prim.Native.Nat.{ℕ, zero, suc, _+_, _^_, _<_}
+use Prim.Native.Nat.{ℕ, _+_, _^_, _<_}
 use mathlib.Core.Path.{_≡_, refl}
 use mathlib.Core.Bool.{Bool, true, false, _&&_, false≢true, and-eq-true-iff}
 use mathlib.Core.List.{List, [], _∷_, _++_, map}
 use native.Mathlib.Omega.{arith}
 use borrow.Author.Tests.{ltb-true}
 use lib.Dec.{ltb}
-use lib.ListN.{length, getD, take, drop, replicate}
+use lib.ListN.{length, take, drop}
 use Rattle.codes.specs.Bytes.{AllBytes, none, more}
 use Rattle.codes.specs.Code.{codeOf}
 use Rattle.codes.specs.Difference.{difference, hasCode}
@@ -24,19 +24,19 @@ use Rattle.headers.specs.Range.{ListInRange}
 use Rattle.headers.specs.Cases.{sample}
 use Rattle.fields.specs.declared.place.Place.{Place}
 use Rattle.fields.specs.Fits.{Sendable}
-use Rattle.fields.specs.Place.{numberOf, good}
+use Rattle.fields.specs.Place.{numberOf}
 use Rattle.fields.specs.NextRange.{zero-words}
 use Rattle.fields.specs.Next.{next, nextByte, nextWord, nextLong, nextDelta16, nextDelta32, nextPayload, readPayload}
 use Rattle.links.specs.Sent.{none8, none16, none32}
-use Rattle.links.specs.Fits.{PartsFit, CuFits, CrFits}
-use Rattle.links.specs.Judgement.{judgementNumber}
+use Rattle.links.specs.Fits.{CuFits, CrFits}
+use Rattle.refresh.specs.Judgement.{judgementNumber}
 use Rattle.links.specs.Head.{headOf}
 use Rattle.links.specs.Cu.{cuBytes, changesOf, valuesOf, cuRest, cuOf}
 use Rattle.links.specs.Cr.{crBytes, secondWith, secondOf, deltasOf, crRest, crOf}
-use Rattle.links.specs.Cs.{State, csBytes, recordWith, recordJudged, requestJudged}
-use Rattle.links.specs.CsLaws.{StateFits, StatesFit, none-fit, more-fit}
-use Rattle.links.specs.Fh.{fhBytes, fieldsForm, fhJudged, fhOf}
-use Rattle.links.specs.FhLaws.{FhFits}
+use Rattle.refresh.specs.Cs.{State, csBytes, recordWith, recordJudged, requestJudged}
+use Rattle.refresh.specs.CsLaws.{StatesFit, none-fit, more-fit}
+use Rattle.refresh.specs.Fh.{fhBytes, fieldsForm, fhJudged, fhOf}
+use Rattle.refresh.specs.FhLaws.{FhFits}
 
 ---- what the cases are about
 

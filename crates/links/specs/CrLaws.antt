@@ -1,14 +1,13 @@
 -- Iarwennol. Laws of COMPRESSED_RTP: what was encoded is decoded, whatever comes after it. Assume nothing.
 -- Used by the theorem on lists of calls (crtp) and by encode.
-use Prim.Native.Nat.{ℕ, _+_, _≤_, _<_}
+use Prim.Native.Nat.{ℕ, _+_, _<_}
 use mathlib.Core.Path.{_≡_, refl, sym, ap, _∙_}
-use mathlib.Core.Bool.{Bool, true, false, cond, _&&_, false≢true}
+use mathlib.Core.Bool.{Bool, true, false, cond, false≢true}
 use mathlib.Core.List.{List, [], _∷_, _++_, append-assoc}
 use native.Mathlib.Omega.{arith}
 use lib.ListN.{length, take, drop, length-append}
 use Rattle.codes.specs.Bytes.{AllBytes, none, more, bigEndian}
 use Rattle.codes.specs.BytesLaws.{allBytes-append, allBytes-bigEndian}
-use Rattle.packet.specs.Csrc.{noList}
 use Rattle.packet.specs.declared.parts.Parts.{Parts}
 use Rattle.bytes.specs.declared.flags.Flags.{Flags}
 use Rattle.bytes.specs.Flags.{byteOf}
@@ -16,9 +15,9 @@ use Rattle.bytes.specs.FlagsLaws.{flagsOf-byteOf}
 use Rattle.bytes.specs.Put.{optional, listBytes}
 use Rattle.bytes.specs.PutLaws.{allBytes-optional, allBytes-words}
 use Rattle.fields.specs.declared.place.Place.{Place}
+use Rattle.fields.specs.FlagsRange.{byteOf-value}
 use Rattle.fields.specs.Place.{good}
 use Rattle.fields.specs.NextLaws.{left-past, nextByte-written, nextWord-written, nextDelta16-written, nextDelta32-written, nextList-written}
-use Rattle.links.specs.declared.head.Head.{Head}
 use Rattle.links.specs.declared.head.ReadParts.{ReadParts}
 use Rattle.links.specs.declared.cr.Second.{Second}
 use Rattle.links.specs.declared.cr.Deltas.{Deltas}
@@ -26,8 +25,8 @@ use Rattle.links.specs.Sent.{delta16, delta32, none8, none16, none32}
 use Rattle.links.specs.SentLaws.{length-four, append-four, unsent8, unsent16, unsent32, allBytes-delta16, allBytes-delta32}
 use Rattle.links.specs.Fits.{PartsFit, CrFits}
 use Rattle.links.specs.Head.{contextOf, headOf}
-use Rattle.links.specs.HeadLaws.{headOf-written, byteOf-value}
-use Rattle.links.specs.Cr.{crOwn, crFirst, crFlags, crHeadBytes, deltaBytes, crBytes, allFour, secondWith, secondOf, deltasOf, crParts, crRest, crOf}
+use Rattle.links.specs.HeadLaws.{headOf-written}
+use Rattle.links.specs.Cr.{crOwn, crFirst, crFlags, deltaBytes, crBytes, allFour, secondWith, secondOf, deltasOf, crRest, crOf}
 
 ---- the second byte
 

@@ -2,7 +2,7 @@
 -- The reader begins past the flag byte. Used by the compressor through encode, and by the decompressor.
 use Prim.Native.Nat.{ℕ}
 use mathlib.Core.Bool.{Bool, true}
-use mathlib.Core.List.{List, [], _∷_, _++_}
+use mathlib.Core.List.{List, _∷_, _++_}
 use Rattle.codes.specs.Bytes.{bigEndian}
 use Rattle.packet.specs.declared.parts.Parts.{Parts}
 use Rattle.bytes.specs.declared.flags.Flags.{Flags}

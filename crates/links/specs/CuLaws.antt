@@ -1,12 +1,12 @@
 -- Iarwennol. Laws of COMPRESSED_UDP with F: what was encoded is decoded, whatever comes after it. Assume nothing.
 -- Used by the theorem on lists of calls (crtp) and by encode.
-use Prim.Native.Nat.{ℕ, _+_, _*_, _^_, _≤_, _<_}
-use mathlib.Core.Path.{_≡_, refl, sym, ap, _∙_}
-use mathlib.Core.Bool.{Bool, true, false}
+use Prim.Native.Nat.{ℕ, _+_, _<_}
+use mathlib.Core.Path.{_≡_, refl, sym, _∙_}
+use mathlib.Core.Bool.{Bool, true}
 use mathlib.Core.List.{List, [], _∷_, _++_, append-assoc}
 use native.Mathlib.Omega.{arith}
 use lib.ListN.{length, take, drop, length-append}
-use Rattle.codes.specs.Bytes.{AllBytes, none, more, bigEndian}
+use Rattle.codes.specs.Bytes.{AllBytes, more, bigEndian}
 use Rattle.codes.specs.BytesLaws.{allBytes-append, allBytes-bigEndian}
 use Rattle.packet.specs.declared.parts.Parts.{Parts}
 use Rattle.bytes.specs.declared.flags.Flags.{Flags}
@@ -14,17 +14,16 @@ use Rattle.bytes.specs.Flags.{byteOf}
 use Rattle.bytes.specs.FlagsLaws.{flagsOf-byteOf}
 use Rattle.bytes.specs.Put.{optional, listBytes, words}
 use Rattle.bytes.specs.PutLaws.{allBytes-optional, allBytes-words}
+use Rattle.fields.specs.FlagsRange.{byteOf-value}
 use Rattle.fields.specs.Place.{good}
 use Rattle.fields.specs.NextLaws.{left-past, nextByte-written, nextWord-written, nextLong-written, nextDelta16-written, nextDelta32-written, nextPayload-written, nextList-written}
-use Rattle.links.specs.declared.head.Head.{Head}
-use Rattle.links.specs.declared.head.ReadParts.{ReadParts}
 use Rattle.links.specs.declared.cu.Changes.{Changes}
 use Rattle.links.specs.declared.cu.Values.{Values}
 use Rattle.links.specs.Sent.{whole8, whole16, whole32, delta16, delta32, none16}
 use Rattle.links.specs.SentLaws.{length-four, append-four, unsent16, allBytes-whole8, allBytes-whole16, allBytes-whole32, allBytes-delta16, allBytes-delta32}
 use Rattle.links.specs.Fits.{PartsFit, CuFits}
 use Rattle.links.specs.Head.{contextOf, headOf}
-use Rattle.links.specs.HeadLaws.{headOf-written, byteOf-value}
+use Rattle.links.specs.HeadLaws.{headOf-written}
 use Rattle.links.specs.Cu.{cuFlags, cuSecond, changeBytes, valueBytes, cuBytes, changesOf, valuesOf, cuParts, cuRest, cuOf}
 
 ---- the fields before the RTP part, which a CU without F has too

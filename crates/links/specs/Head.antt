@@ -1,7 +1,7 @@
 -- Iarwennol. How a CU and a CR begin (rules 6.2, 6.3): the context number, then a flag byte whose number is the link sequence.
 -- Used by the decompressor, which judges the context between the two.
 use Prim.Native.Nat.{ℕ}
-use mathlib.Core.Bool.{Bool, true}
+use mathlib.Core.Bool.{true}
 use mathlib.Core.List.{List}
 use Rattle.codes.specs.Reading.{byteAt}
 use Rattle.bytes.specs.Flags.{flagsOf}

@@ -1,18 +1,17 @@
 -- Iarwennol. How a CU and a CR begin, read back. Assumes nothing.
 -- Used by the round trips of CU and CR.
-use Prim.Native.Nat.{ℕ, _+_, _*_, _%_, _≤_, _<_}
+use Prim.Native.Nat.{ℕ, _≤_, _<_}
 use mathlib.Core.Path.{_≡_, refl}
-use mathlib.Core.Bool.{Bool, true, false}
+use mathlib.Core.Bool.{true}
 use mathlib.Core.List.{List, [], _∷_}
 use native.Mathlib.Omega.{arith}
-use lib.ListN.{length, drop}
+use lib.ListN.{length}
 use Rattle.bytes.specs.declared.flags.Flags.{Flags}
-use Rattle.bytes.specs.Flags.{byteOf, flagsOf, digit}
+use Rattle.bytes.specs.Flags.{byteOf}
 use Rattle.bytes.specs.FlagsLaws.{flagsOf-byteOf}
 use Rattle.fields.specs.Place.{good}
 use Rattle.fields.specs.NextLaws.{left-past, nextByte-written}
 use Rattle.fields.specs.NextRange.{nextByte-within}
-use Rattle.links.specs.declared.head.Head.{Head}
 use Rattle.links.specs.Head.{headOf}
 
 pub headOf-written : (s : List ℕ) (context : ℕ) (f : Flags) (l : List ℕ) → f .low < 16 → s ≡ context ∷ byteOf f ∷ l
@@ -20,19 +19,6 @@ pub headOf-written : (s : List ℕ) (context : ℕ) (f : Flags) (l : List ℕ) �
 unfolding headOf
 headOf-written s context f l h e =
     rw (nextByte-written s 1 true (byteOf f) l refl (left-past s 0 (context ∷ []) (byteOf f ∷ l) e), flagsOf-byteOf f h)
-
--- a flag byte is a byte
-digit-le : (b : Bool) → digit b ≤ 1
-digit-le true = omega arith
-digit-le false = omega arith
-
-pub byteOf-value : (f : Flags) → f .low < 16 → byteOf f < 256
-byteOf-value f h =
-    let a = digit-le (f .a) in
-    let b = digit-le (f .b) in
-    let c = digit-le (f .c) in
-    let d = digit-le (f .d) in
-    omega arith
 
 -- whatever the bytes: the link sequence is below 16, and the reading is not past the end
 pub headOf-low : (s : List ℕ) → headOf s .flags .low < 16

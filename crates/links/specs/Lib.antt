@@ -10,9 +10,4 @@ pub mod CrLaws
 pub mod Whole
 pub mod WholeLaws
 pub mod Range
-pub mod Judgement
-pub mod Cs
-pub mod CsLaws
-pub mod Fh
-pub mod FhLaws
 pub mod Cases

@@ -1,7 +1,7 @@
 -- Iarwennol. The bytes of fields that a link packet may carry, whole or as a difference (rules 6.2, 6.3).
 -- Used by the layouts of CU and CR.
 use Prim.Native.Nat.{ℕ}
-use mathlib.Core.Bool.{Bool, false}
+use mathlib.Core.Bool.{false}
 use mathlib.Core.List.{List, [], _∷_}
 use Rattle.codes.specs.Bytes.{bigEndian}
 use Rattle.codes.specs.Code.{codeOf}

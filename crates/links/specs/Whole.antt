@@ -2,7 +2,7 @@
 -- The reader begins past the flag byte. The compressor never sends this form (rule 8.8); the decompressor takes it.
 use Prim.Native.Nat.{ℕ, _+_, _*_, _%_}
 use mathlib.Core.Bool.{Bool, true, false}
-use mathlib.Core.List.{List, [], _∷_, _++_}
+use mathlib.Core.List.{List, _∷_, _++_}
 use Rattle.codes.specs.Bytes.{bigEndian}
 use Rattle.packet.specs.Csrc.{noList}
 use Rattle.packet.specs.declared.header.RtpHeader.{RtpHeader}

@@ -1,34 +1,27 @@
 -- Iarwennol. Laws of COMPRESSED_UDP without F: what was encoded is decoded, whatever comes after it. Assume nothing.
 -- The compressor sends no such packet; the law holds the two definitions of the layout together.
-use Prim.Native.Nat.{ℕ, _+_, _*_, _/_, _%_, _^_, _≤_, _<_}
+use Prim.Native.Nat.{ℕ, _+_, _*_, _/_, _%_, _≤_, _<_}
 use mathlib.Core.Path.{_≡_, refl, sym, ap, _∙_}
 use mathlib.Core.Bool.{Bool, true, false}
 use mathlib.Core.List.{List, [], _∷_, _++_, append-assoc}
 use native.Mathlib.Omega.{arith}
-use lib.Dec.{eqb}
 use lib.ListN.{length, drop, length-append}
 use Rattle.codes.specs.Bytes.{bigEndian}
-use Rattle.codes.specs.BytesLaws.{length-bigEndian}
 use Rattle.packet.specs.Csrc.{noList}
 use Rattle.packet.specs.declared.header.RtpHeader.{RtpHeader}
 use Rattle.packet.specs.declared.parts.Parts.{Parts}
-use Rattle.bytes.specs.declared.flags.Flags.{Flags}
-use Rattle.bytes.specs.Flags.{byteOf, flagsOf, digit, bitAt}
+use Rattle.bytes.specs.Flags.{byteOf, digit, bitAt}
 use Rattle.bytes.specs.FlagsLaws.{flagsOf-byteOf}
 use Rattle.bytes.specs.Put.{listBytes}
-use Rattle.headers.specs.Range.{ListInRange}
 use Rattle.fields.specs.Place.{good}
 use Rattle.fields.specs.NextLaws.{left-past, nextVersion-written, nextByte-written, nextWord-written, nextLong-written, nextList-written}
-use Rattle.links.specs.declared.cu.Changes.{Changes}
 use Rattle.links.specs.declared.whole.Fixed.{Fixed}
-use Rattle.links.specs.declared.whole.GotRtp.{GotRtp}
-use Rattle.links.specs.declared.whole.ReadWhole.{ReadWhole}
 use Rattle.links.specs.Sent.{none8, none16, none32}
 use Rattle.links.specs.SentLaws.{append-four, unsent8, unsent16, unsent32}
-use Rattle.links.specs.Fits.{PartsFit, HeaderFits, WholeFits}
+use Rattle.links.specs.Fits.{HeaderFits, WholeFits}
 use Rattle.links.specs.Head.{headOf}
 use Rattle.links.specs.HeadLaws.{headOf-written}
-use Rattle.links.specs.Cu.{changeBytes, changesOf}
+use Rattle.links.specs.Cu.{changeBytes}
 use Rattle.links.specs.CuLaws.{changes, changesOf-changeBytes}
 use Rattle.links.specs.Whole.{rtpFirst, rtpSecond, rtpBytes, wholeFlags, wholeBytes, fixedOf, rtpHeader, rtpRest, rtpOf, wholeParts, wholeOf}
 

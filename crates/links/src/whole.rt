@@ -1,5 +1,5 @@
 ghost use mathlib.Core.Path.{_≡_};
-ghost use Prim.Native.Nat.{_<_, _%_};
+ghost use Prim.Native.Nat.{_%_};
 ghost use Rattle.links.specs.Whole.{fixedOf, rtpOf, wholeOf};
 use crate::cu::read_changes;
 use bytes::flags::Flags;
@@ -10,7 +10,6 @@ use fields::next::next_long;
 use fields::next::next_version;
 use fields::next::next_word;
 use fields::place::Place;
-use packet::csrc::Csrc;
 use packet::header::Rtp;
 use packet::header::RtpHeader;
 use packet::parts::Parts;

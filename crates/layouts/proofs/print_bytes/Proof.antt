@@ -1,6 +1,6 @@
 use lib.ListN.{length}
 use borrow.Author.Needs.{needs}
-use Prim.Native.Nat.{ℕ, _≤_, _-_}
+use Prim.Native.Nat.{_≤_, _-_}
 use Rattle.layouts.proofs.print_bytes.Statement.{statement}
 use Rattle.layouts.proofs.print_bytes.Tie as tie
 

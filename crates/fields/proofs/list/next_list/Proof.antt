@@ -4,7 +4,7 @@ use borrow.Author.Needs.{needs}
 use native.Mathlib.Omega.{arith}
 use native.Mathlib.Numerals.{add-one}
 use mathlib.Core.Path.{_≡_, refl}
-use Prim.Native.Nat.{ℕ, _<_, _≤_, _-_, _+_}
+use Prim.Native.Nat.{_<_, _≤_, _-_}
 use Rattle.fields.proofs.list.next_list.Statement.{statement}
 use Rattle.fields.proofs.list.next_list.Tie as tie
 

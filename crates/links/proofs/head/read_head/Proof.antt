@@ -1,4 +1,3 @@
-use mathlib.Core.Path.{refl}
 use Rattle.links.specs.Head.{headOf}
 use borrow.Author.Needs.{needs}
 use Rattle.links.proofs.head.read_head.Statement.{statement}
