@@ -1,0 +1,25 @@
+-- Iarwennol. How many bytes a link packet has before what is copied (rules 6.2, 6.3).
+-- Used by the calls, which compute the exact length before they write (rule 3.1, refusal 11).
+use Prim.Native.Nat.{ℕ, _+_, _*_}
+use mathlib.Core.Bool.{Bool, cond}
+use lib.ListN.{length}
+use Rattle.packet.specs.declared.parts.Parts.{Parts}
+use Rattle.links.specs.Sent.{delta16, delta32}
+
+abbrev pub changeSize : Bool → Parts → ℕ
+changeSize carried h = cond carried 2 0 + length (delta16 (h .did)) + length (delta32 (h .dts)) + cond (h .id .sent) 2 0
+
+abbrev pub valueSize : Parts → ℕ
+valueSize h = cond (h .sequence .sent) 2 0 + cond (h .timestamp .sent) 4 0 + cond (h .payload .sent) 1 0 + 4 * h .csrc .count
+
+abbrev pub cuSize : Bool → Parts → ℕ
+cuSize carried h = 3 + changeSize carried h + valueSize h
+
+abbrev pub crHeadSize : Bool → Parts → ℕ
+crHeadSize carried h = 2 + cond carried 2 0 + cond (h .listed) 1 0
+
+abbrev pub deltaSize : Parts → ℕ
+deltaSize h = length (delta16 (h .did)) + length (delta16 (h .dsn)) + length (delta32 (h .dts)) + 4 * h .csrc .count
+
+abbrev pub crSize : Bool → Parts → ℕ
+crSize carried h = crHeadSize carried h + deltaSize h

@@ -1,0 +1,56 @@
+use Rattle.fields.specs.Next.{nextLong, next}
+use borrow.Author.Needs.{needs}
+use Rattle.fields.proofs.next.next_long.Statement.{statement}
+use Rattle.fields.proofs.next.next_long.Tie as tie
+
+is-good-requires : tie.Need-is-good-requires
+is-good-requires c κs = search needs
+
+long-requires : tie.Need-long-requires
+long-requires c κs = search needs
+
+enum-known-v : tie.Need-enum-known-v
+enum-known-v c = search needs
+
+there32-requires : tie.Need-there32-requires
+there32-requires c κs = search needs
+
+enum-told : tie.Need-enum-told
+enum-told c = search needs
+
+stop-requires : tie.Need-stop-requires
+stop-requires c κs = search needs
+
+none32-requires : tie.Need-none32-requires
+none32-requires c κs = search needs
+
+none32-requires-2 : tie.Need-none32-requires-2
+none32-requires-2 c κs = search needs
+
+returns : tie.Need-returns
+unfolding nextLong next
+returns c = rw (c .there32 .ensures, ← c .before .before .before .before .before .before .is-good .ensures, c .before .before .before .before .before .if1 .taken, ← c .before .before .before .before .long .ensures, c .before .before .v .given .1)
+
+returns-2 : tie.Need-returns-2
+unfolding nextLong next
+returns-2 c = rw (c .none32 .ensures, c .before .stop .ensures, ← c .before .before .before .before .before .before .is-good .ensures, c .before .before .before .before .before .if1 .taken, ← c .before .before .before .before .long .ensures, c .before .before .enum-told .given .1)
+
+returns-3 : tie.Need-returns-3
+unfolding nextLong next
+returns-3 c = rw (c .none322 .ensures, ← c .before .before .is-good .ensures, c .before .if1 .left)
+
+pub next-long-spec : {M : Type 1} → statement M
+next-long-spec =
+    tie.close
+    (tie.spec
+    is-good-requires
+    long-requires
+    enum-known-v
+    there32-requires
+    enum-told
+    stop-requires
+    none32-requires
+    none32-requires-2
+    returns
+    returns-2
+    returns-3)

@@ -1,0 +1,6 @@
+pub mod Fits
+pub mod Place
+pub mod Next
+pub mod NextLaws
+pub mod NextRange
+pub mod FlagsRange

@@ -1,0 +1,157 @@
+ghost use mathlib.Core.Path.{_≡_};
+ghost use mathlib.Core.Bool.{true};
+ghost use Rattle.codes.specs.Reading.{has};
+ghost use Rattle.fields.specs.Next.{nextByte, nextWord, nextLong, nextDelta16, nextDelta32, nextPayload, nextVersion};
+use crate::place::Got8;
+use crate::place::Got16;
+use crate::place::Got32;
+use crate::place::Outcome;
+use crate::place::Place;
+use crate::place::is_good;
+use crate::place::none8;
+use crate::place::none16;
+use crate::place::none32;
+use crate::place::stop;
+use crate::place::there8;
+use crate::place::there16;
+use crate::place::there32;
+use codes::cursor::ReadByte;
+use codes::cursor::ReadDelta16;
+use codes::cursor::ReadDelta32;
+use codes::cursor::ReadLong;
+use codes::cursor::ReadWord;
+
+// Each reads the field at p where it is wanted, unless a field before it was refused.
+pub fn next_byte(s: &[u8], p: Place, wanted: bool) -> Got8
+    ensures { λ r. ⌜ r ≡ nextByte (now (s .entry)) p wanted ⌝ }
+{
+    let o = p.outcome;
+    let c = p.cursor;
+    if is_good(o) & wanted {
+        match c.byte(s) {
+            ReadByte::Byte(v, n) => { there8(n, v) }
+            ReadByte::Cut => { none8(stop(c, Outcome::Cut)) }
+        }
+    } else {
+        none8(p)
+    }
+}
+
+pub fn next_word(s: &[u8], p: Place, wanted: bool) -> Got16
+    ensures { λ r. ⌜ r ≡ nextWord (now (s .entry)) p wanted ⌝ }
+{
+    let o = p.outcome;
+    let c = p.cursor;
+    if is_good(o) & wanted {
+        match c.word(s) {
+            ReadWord::Word(v, n) => { there16(n, v) }
+            ReadWord::Cut => { none16(stop(c, Outcome::Cut)) }
+        }
+    } else {
+        none16(p)
+    }
+}
+
+pub fn next_long(s: &[u8], p: Place, wanted: bool) -> Got32
+    ensures { λ r. ⌜ r ≡ nextLong (now (s .entry)) p wanted ⌝ }
+{
+    let o = p.outcome;
+    let c = p.cursor;
+    if is_good(o) & wanted {
+        match c.long(s) {
+            ReadLong::Long(v, n) => { there32(n, v) }
+            ReadLong::Cut => { none32(stop(c, Outcome::Cut)) }
+        }
+    } else {
+        none32(p)
+    }
+}
+
+pub fn next_delta16(s: &[u8], p: Place, wanted: bool) -> Got16
+    ensures { λ r. ⌜ r ≡ nextDelta16 (now (s .entry)) p wanted ⌝ }
+{
+    let o = p.outcome;
+    let c = p.cursor;
+    if is_good(o) & wanted {
+        match c.delta16(s) {
+            ReadDelta16::Delta(v, n) => { there16(n, v) }
+            ReadDelta16::Cut => { none16(stop(c, Outcome::Cut)) }
+            ReadDelta16::Unused => { none16(stop(c, Outcome::Unused)) }
+        }
+    } else {
+        none16(p)
+    }
+}
+
+pub fn next_delta32(s: &[u8], p: Place, wanted: bool) -> Got32
+    ensures { λ r. ⌜ r ≡ nextDelta32 (now (s .entry)) p wanted ⌝ }
+{
+    let o = p.outcome;
+    let c = p.cursor;
+    if is_good(o) & wanted {
+        match c.delta32(s) {
+            ReadDelta32::Delta(v, n) => { there32(n, v) }
+            ReadDelta32::Cut => { none32(stop(c, Outcome::Cut)) }
+            ReadDelta32::Unused => { none32(stop(c, Outcome::Unused)) }
+        }
+    } else {
+        none32(p)
+    }
+}
+
+// A payload type: its top bit must be 0.
+pub fn next_payload(s: &[u8], p: Place, wanted: bool) -> Got8
+    ensures { λ r. ⌜ r ≡ nextPayload (now (s .entry)) p wanted ⌝ }
+{
+    let o = p.outcome;
+    let c = p.cursor;
+    if is_good(o) & wanted {
+        match c.byte(s) {
+            ReadByte::Byte(v, n) => {
+                if v < 128 {
+                    return there8(n, v);
+                }
+                none8(stop(c, Outcome::Forbidden))
+            }
+            ReadByte::Cut => { none8(stop(c, Outcome::Cut)) }
+        }
+    } else {
+        none8(p)
+    }
+}
+
+// Whether n bytes stand at a place.
+fn has_left(s: &[u8], at: usize, n: usize) -> bool
+    ensures { λ r. ⌜ r ≡ has (now (s .entry)) at n ⌝ }
+{
+    if s.len() < n {
+        return false;
+    }
+    if s.len() - n < at {
+        return false;
+    }
+    true
+}
+
+// The first byte of an RTP header: all twelve fixed bytes must be there, and the version must be 2.
+pub fn next_version(s: &[u8], p: Place) -> Got8
+    ensures { λ r. ⌜ r ≡ nextVersion (now (s .entry)) p ⌝ }
+{
+    let o = p.outcome;
+    let c = p.cursor;
+    if !is_good(o) {
+        return none8(p);
+    }
+    if !has_left(s, c.at, 12) {
+        return none8(stop(c, Outcome::Cut));
+    }
+    match c.byte(s) {
+        ReadByte::Byte(v, n) => {
+            if v / 64 == 2 {
+                return there8(n, v);
+            }
+            none8(stop(c, Outcome::Forbidden))
+        }
+        ReadByte::Cut => { none8(stop(c, Outcome::Cut)) }
+    }
+}

@@ -1,0 +1,13 @@
+pub mod Sent
+pub mod SentLaws
+pub mod Fits
+pub mod Head
+pub mod HeadLaws
+pub mod Cu
+pub mod CuLaws
+pub mod Cr
+pub mod CrLaws
+pub mod Whole
+pub mod WholeLaws
+pub mod Range
+pub mod Cases

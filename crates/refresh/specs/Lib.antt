@@ -1,0 +1,5 @@
+pub mod Judgement
+pub mod Cs
+pub mod CsLaws
+pub mod Fh
+pub mod FhLaws

@@ -1,0 +1,118 @@
+ghost use mathlib.Core.Path.{_≡_};
+ghost use Prim.Native.Nat.{_≤_, _<_, _+_, _*_, _%_};
+ghost use lib.ListN.{length};
+ghost use Rattle.headers.specs.Header.{countAt, headerSize};
+ghost use Rattle.bytes.specs.Put.{Wrote};
+ghost use Rattle.headers.specs.Range.{Narrow};
+ghost use Rattle.refresh.specs.Fh.{fieldsForm, fhJudged, fhOf, ipField, fhBytes};
+use crate::judgement::Judgement;
+use bytes::flags::split;
+use headers::form::fixed_form;
+use headers::form::ip_checksum_of;
+use headers::place::count_at;
+use headers::place::word_at;
+use headers::read::read_header;
+use headerwrite::checksum::ip_checksum;
+use headerwrite::write::put_header;
+use packet::header::Header;
+
+// A full header: the header of its packet, and what stands in the two length fields.
+//
+// start: where the rest of the packet begins.
+pub struct FullHeader {
+    pub header: Header,
+    pub context: u8,
+    pub generation: u8,
+    pub link: u8,
+    pub start: usize,
+}
+
+// The leading bits of the two length fields.
+fn fields_form(s: &[u8]) -> bool
+    requires { ⌜ 40 ≤ length (now s) ⌝ }
+    ensures { λ r. ⌜ r ≡ fieldsForm (now (s .entry)) ⌝ }
+{
+    (s[2] >> 6 == 1) & (word_at(s, 24) >> 4 == 0)
+}
+
+// A full header of any bytes, judged whole. The total length is its own, since only two fields differ from its packet.
+pub fn judge_fh(contexts: u8, s: &[u8]) -> Judgement
+    requires { ⌜ length (now s) < 65536 ⌝ }
+    ensures { λ r. ⌜ r ≡ fhJudged contexts (now (s .entry)) ⌝ }
+{
+    let n = s.len();
+    if n < 40 {
+        return Judgement::Cut;
+    }
+    if contexts <= s[3] {
+        return Judgement::NoSuchContext;
+    }
+    let right = word_at(s, 10) == ip_checksum_of(s, n as u16);
+    if !(fixed_form(s) & fields_form(s) & right) {
+        return Judgement::Forbidden;
+    }
+    if n < 40 + 4 * count_at(s, 28) {
+        return Judgement::Cut;
+    }
+    Judgement::Good
+}
+
+// The six bits below a byte's top two.
+fn low_six(b: u8) -> u8
+    ensures { λ r. ⌜ r ≡ b % 64 ⌝ }
+{
+    b & 63
+}
+
+// What a full header says that was judged good.
+pub fn read_fh(s: &[u8]) -> FullHeader
+    requires { ⌜ 40 + 4 * countAt (now s) 28 ≤ length (now s) ⌝ }
+    ensures { λ r. ⌜ r ≡ fhOf (now (s .entry)) ⌝ }
+{
+    let header = read_header(s);
+    let generation = low_six(s[2]);
+    let f = split(s[25]);
+    let count = count_at(s, 28);
+    FullHeader {
+        header: header,
+        context: s[3],
+        generation: generation,
+        link: f.low,
+        start: 40 + 4 * count,
+    }
+}
+
+// How many bytes a full header has before the rest of the packet.
+pub fn fh_size(h: Header) -> usize
+    requires { ⌜ h .csrc .count ≤ 15 ⌝ }
+    ensures { λ r. ⌜ (r ≡ headerSize h) × (r ≤ 100) ⌝ }
+{
+    let l = h.csrc;
+    40 + 4 * (l.count as usize)
+}
+
+// What stands in the IP length's place.
+fn ip_field(context: u8, generation: u8) -> u16
+    requires { ⌜ generation < 64 ⌝ }
+    ensures { λ r. ⌜ r ≡ ipField context generation ⌝ }
+{
+    (64 + (generation as u16)) * 256 + (context as u16)
+}
+
+// The bytes of a full header, total being the length of its packet.
+pub fn put_fh(
+    out: &mut [u8],
+    at: usize,
+    context: u8,
+    generation: u8,
+    link: u8,
+    total: u16,
+    h: Header,
+) -> usize
+    requires { ⌜ Narrow h × (generation < 64) × (at + headerSize h ≤ length (now out)) ⌝ }
+    ensures { λ r. ⌜ (r ≡ at + headerSize h) × Wrote (now (out .entry)) (now (out .exit)) at r (fhBytes context generation link total h) ⌝ }
+{
+    let field = ip_field(context, generation);
+    let checksum = ip_checksum(h, total);
+    put_header(out, at, h, field, link as u16, checksum)
+}
