@@ -13,7 +13,7 @@ use lib.ListN.{length, getD, replicate, length-append, List·getD-append}
 use lib.Seq.{getD-at}
 use borrow.Author.Tests.{ltb-true, ltb-false, eqb-true, eqb-false, le-ltb, lt-ltb, ne-eqb, eq-eqb}
 use Rattle.calls.specs.Calls.{Call, sendCall, requestCall, arrivalCall, otherCall, Sent, Arrival, World, Ends, arrivals, lost, isOn, logged, Bounded}
-use Rattle.calls.specs.Calls.{marks, packetAt, arrived, step, final, Lawful, Exact, Faithful}
+use Rattle.calls.specs.Calls.{marks, packetAt, arrived, step, final, Lawful, Exact, Answers, Ready, Faithful}
 
 -- no n + 1 lost ones in a row, with j lost ones before
 abbrev pub Runs : ℕ → ℕ → List Bool → Type 0
@@ -54,6 +54,11 @@ module _ {P L B Q C D SA RA : Type 0} (ε : Ends P L B Q C D SA RA) where
   sends s (arrivalCall i b ∷ cs) = sends s cs
   sends s (otherCall ∷ cs) = sends s cs
 
+module _ {P L B Q C D SA RA : Type 0} (ε : Ends P L B Q C D SA RA) where
+  -- an arrival before the i-th does not bear on whether the i-th is lost
+  lost-earlier : (a : Arrival B) (ar : List (Arrival B)) (i len : ℕ) → a .index < i → lost ε (a ∷ ar) i len ≡ lost ε ar i len
+  lost-earlier a ar i len h = rw (ne-eqb (a .index) i (omega arith), le-ltb i (a .index) (omega arith))
+
 -- whether an arrival bears on context c: it is on c, or it is plain
 abbrev pub concerns : Option ℕ → ℕ → Bool
 concerns none c = true
@@ -81,15 +86,19 @@ module _ {P L B Q C D SA RA : Type 0} (n : ℕ) (ε : Ends P L B Q C D SA RA) (R
         (b′ : B) → ε .room b′ < ε .size p → Rel c (suc j) (ε .decompressor (ε .receive v l b′)) (ε .compressor (ε .send s p b))
     pub plains : (c j : ℕ) (v : D) (s : C) (p : P) (b : B) (l : L) → ε .out (ε .send s p b) ≡ some l → ε .context l ≡ none → Rel c j v s →
         (b′ : B) → ε .size p ≤ ε .room b′ → ε .Right p (ε .receive v l b′)
+    -- without room an arrival is refused for that, on c or plain
+    pub lacks : (c j : ℕ) (v : D) (s : C) (p : P) (b : B) (l : L) → ε .out (ε .send s p b) ≡ some l → isOn (ε .context l) c ≡ true → Rel c j v s →
+        (b′ : B) → ε .room b′ < ε .size p → ε .Lacking (ε .receive v l b′)
+    pub plainLacks : (c j : ℕ) (v : D) (s : C) (p : P) (b : B) (l : L) → ε .out (ε .send s p b) ≡ some l → ε .context l ≡ none → Rel c j v s →
+        (b′ : B) → ε .room b′ < ε .size p → ε .Lacking (ε .receive v l b′)
 
 -- One context.
 module _ {P L B Q C D SA RA : Type 0} (n : ℕ) (ε : Ends P L B Q C D SA RA) (Rel : ℕ → ℕ → D → C → Type 0) (laws : Laws n ε Rel) (c : ℕ) where
-  -- the arrivals that bear on c, from a receiver's table on, of packets given out: those with room are right
+  -- the arrivals that bear on c, from a decompressor's table on, of packets given out: with room they are right
   abbrev pub Good : D → List (Sent P L) → List (Arrival B) → Type 0
   Good v es [] = Unit {0}
   Good v es (a ∷ ar) =
-      (concerns (ε .context ((getD es (a .index) (ε .nothing)) .link)) c ≡ true → ltb (ε .room (a .buffer)) (ε .size ((getD es (a .index) (ε .nothing)) .orig)) ≡ false →
-      ε .Right ((getD es (a .index) (ε .nothing)) .orig) (ε .receive v ((getD es (a .index) (ε .nothing)) .link) (a .buffer)))
+      (concerns (ε .context ((getD es (a .index) (ε .nothing)) .link)) c ≡ true → Answers ε ((getD es (a .index) (ε .nothing)) .orig) ((getD es (a .index) (ε .nothing)) .link) v)
       × Good (ε .decompressor (ε .receive v ((getD es (a .index) (ε .nothing)) .link) (a .buffer))) es ar
 
   pub record Linked (ar : List (Arrival B)) (i : ℕ) (v : D) (s : C) (es : List (Sent P L)) : Type 0 where
@@ -98,13 +107,10 @@ module _ {P L B Q C D SA RA : Type 0} (n : ℕ) (ε : Ends P L B Q C D SA RA) (R
     pub runs : Runs n j (marks ε c ar i es)
 
   -- an arrival before the i-th does not bear on what is lost from the i-th on
-  lost-skip : (a : Arrival B) (ar : List (Arrival B)) (i len : ℕ) → a .index < i → lost ε (a ∷ ar) i len ≡ lost ε ar i len
-  lost-skip a ar i len h = rw (ne-eqb (a .index) i (omega arith), le-ltb i (a .index) (omega arith))
-
   marks-skip : (a : Arrival B) (ar : List (Arrival B)) (i : ℕ) (es : List (Sent P L)) → a .index < i → marks ε c (a ∷ ar) i es ≡ marks ε c ar i es
   marks-skip a ar i [] h = refl
   marks-skip a ar i (e ∷ es) h =
-      rw (lost-skip a ar i (ε .size (e .orig)) h, marks-skip a ar (suc i) es (omega arith))
+      rw (lost-earlier ε a ar i (ε .size (e .orig)) h, marks-skip a ar (suc i) es (omega arith))
 
   -- what the first packet's mark says
   mark-off : (j : ℕ) (ar : List (Arrival B)) (i : ℕ) (e : Sent P L) (es : List (Sent P L)) → isOn (ε .context (e .link)) c ≡ false →
@@ -142,9 +148,9 @@ module _ {P L B Q C D SA RA : Type 0} (n : ℕ) (ε : Ends P L B Q C D SA RA) (R
         go true false h e k = record { j = 0; rel = laws .takes c (r .j) v s p b l out h (r .rel) b′ (ltb-false _ _ e) .1; runs = mark-kept (r .j) ar i _ es h k (r .runs) }
         go false short h e k = record { j = r .j; rel = laws .passes c (r .j) v s p b l out h (r .rel) b′; runs = mark-off (r .j) ar i _ es h (r .runs) }
 
-    right-here : (b′ : B) (o : Option ℕ) → ε .context l ≡ o → concerns o c ≡ true → ltb (ε .room b′) (ε .size p) ≡ false → ε .Right p (ε .receive v l b′)
-    right-here b′ none e h k = laws .plains c (r .j) v s p b l out e (r .rel) b′ (ltb-false _ _ k)
-    right-here b′ (some d) e h k = laws .takes c (r .j) v s p b l out (rw e h) (r .rel) b′ (ltb-false _ _ k) .0
+    right-here : (o : Option ℕ) → ε .context l ≡ o → concerns o c ≡ true → Answers ε p l v
+    right-here none e h b′ = (laws .plains c (r .j) v s p b l out e (r .rel) b′, laws .plainLacks c (r .j) v s p b l out e (r .rel) b′)
+    right-here (some d) e h b′ = (λ k. laws .takes c (r .j) v s p b l out (rw e h) (r .rel) b′ k .0, laws .lacks c (r .j) v s p b l out (rw e h) (r .rel) b′)
 
   past : (a : Arrival B) (ar : List (Arrival B)) (i : ℕ) (v : D) (s : C) (es : List (Sent P L)) → a .index < i → Linked (a ∷ ar) i v s es → Linked ar i v s es
   past a ar i v s es h r = record { j = r .j; rel = r .rel; runs = rw (marks-skip a ar i es h) at (r .runs) }
@@ -173,7 +179,7 @@ module _ {P L B Q C D SA RA : Type 0} (n : ℕ) (ε : Ends P L B Q C D SA RA) (R
 
         go : (same : Bool) → eqb (a .index) i ≡ same → Good v all (a ∷ ar)
         go true q = let q′ : a .index ≡ i = eqb-true _ _ q in rw (here q′) (
-          right-here s p b l o es (a ∷ ar) i v lk (a .buffer) (ε .context l) refl,
+          right-here s p b l o es (a ∷ ar) i v lk (ε .context l) refl,
           ih (ε .decompressor (ε .receive v l (a .buffer))) ar (pre ++ (x ∷ [])) (suc i) all′ longer (rw q′ at (asc .2))
               (past a ar (suc i) _ _ es (omega arith) (next-here s p b l o es (a ∷ ar) i v lk (a .buffer) (ltb (ε .room (a .buffer)) (ε .size p)) refl (rw q))),
         )
@@ -225,15 +231,12 @@ module _ {P L B Q C D SA RA : Type 0} (n : ℕ) (ε : Ends P L B Q C D SA RA) (R
       (law .0, rw (log-end cs (step ε w (arrivalCall i b)), length-append) (omega arith), ascends cs (step ε w (arrivalCall i b)) (suc i) (law .2))
 
   -- from the arrivals in their order back to the calls in theirs
-  module _ (whole : List (Arrival B)) (all : List (Sent P L)) where
-    exact-arrival : (i : ℕ) (b : B) (cs : List (Call P B Q)) (w : World P L C D) (m : ℕ) →
-        m ≤ i → i < length (w .log) →
-        ((k len : ℕ) → m ≤ k → lost ε whole k len ≡ lost ε (record { index = i; buffer = b } ∷ arrivals ε cs) k len) →
-        all ≡ w .log ++ sends ε (w .compressor) cs →
+  module _ (all : List (Sent P L)) where
+    ready-arrival : (i : ℕ) (b : B) (cs : List (Call P B Q)) (w : World P L C D) → i < length (w .log) → all ≡ w .log ++ sends ε (w .compressor) cs →
         ((c : ℕ) → Good n ε Rel laws c (w .decompressor) all (record { index = i; buffer = b } ∷ arrivals ε cs)) →
-        (((c : ℕ) → Good n ε Rel laws c (ε .decompressor (arrived ε w i b)) all (arrivals ε cs)) → Exact ε whole (step ε w (arrivalCall i b)) cs) →
-        Exact ε whole w (arrivalCall i b ∷ cs)
-    exact-arrival i b cs w m low short same e good ih = (λ f. now (judge o) .0 (judges o) (sym room-is ∙ f), ih (λ c. now c .1))
+        (((c : ℕ) → Good n ε Rel laws c (ε .decompressor (arrived ε w i b)) all (arrivals ε cs)) → Ready ε (step ε w (arrivalCall i b)) cs) →
+        Ready ε w (arrivalCall i b ∷ cs)
+    ready-arrival i b cs w short e good ih = (now (judge o) .0 (judges o), ih (λ c. now c .1))
       where
         o : Option ℕ
         o = ε .context ((getD (w .log) i (ε .nothing)) .link)
@@ -241,32 +244,54 @@ module _ {P L B Q C D SA RA : Type 0} (n : ℕ) (ε : Ends P L B Q C D SA RA) (R
         here : getD all i (ε .nothing) ≡ getD (w .log) i (ε .nothing)
         here = rw e (List·getD-append (w .log) _ (ε .nothing) i short)
 
-        now : (c : ℕ) → (concerns (ε .context ((getD (w .log) i (ε .nothing)) .link)) c ≡ true → ltb (ε .room b) (ε .size (packetAt ε w i)) ≡ false → ε .Right (packetAt ε w i) (arrived ε w i b))
+        now : (c : ℕ) → (concerns (ε .context ((getD (w .log) i (ε .nothing)) .link)) c ≡ true → Answers ε (packetAt ε w i) ((getD (w .log) i (ε .nothing)) .link) (w .decompressor))
             × Good n ε Rel laws c (ε .decompressor (arrived ε w i b)) all (arrivals ε cs)
         now c = rw here at (good c)
 
-        room-is : lost ε whole i (ε .size (packetAt ε w i)) ≡ ltb (ε .room b) (ε .size (packetAt ε w i))
-        room-is = same i _ low ∙ rw (eq-eqb i i refl)
+    ready-of : (cs : List (Call P B Q)) (w : World P L C D) (m : ℕ) → Lawful ε w m cs →
+        all ≡ w .log ++ sends ε (w .compressor) cs → ((c : ℕ) → Good n ε Rel laws c (w .decompressor) all (arrivals ε cs)) → Ready ε w cs
+    ready-of [] w m law e good = tt
+    ready-of (sendCall p b ∷ cs) w m law e good = ready-of cs (step ε w (sendCall p b)) m law (e ∙ sym (append-assoc (w .log) _ _)) good
+    ready-of (requestCall q ∷ cs) w m law e good = ready-of cs (step ε w (requestCall q)) m law e good
+    ready-of (otherCall ∷ cs) w m law e good = ready-of cs w m law e good
+    ready-of (arrivalCall i b ∷ cs) w m law e good = ready-arrival i b cs w (law .1) e good (ready-of cs (step ε w (arrivalCall i b)) (suc i) (law .2) e)
 
-    exact-of : (cs : List (Call P B Q)) (w : World P L C D) (m : ℕ) → Lawful ε w m cs →
-        ((k len : ℕ) → m ≤ k → lost ε whole k len ≡ lost ε (arrivals ε cs) k len) →
-        all ≡ w .log ++ sends ε (w .compressor) cs → ((c : ℕ) → Good n ε Rel laws c (w .decompressor) all (arrivals ε cs)) → Exact ε whole w cs
-    exact-of [] w m law same e good = tt
-    exact-of (sendCall p b ∷ cs) w m law same e good =
-        exact-of cs (step ε w (sendCall p b)) m law same (e ∙ sym (append-assoc (w .log) _ _)) good
-    exact-of (requestCall q ∷ cs) w m law same e good = exact-of cs (step ε w (requestCall q)) m law same e good
-    exact-of (otherCall ∷ cs) w m law same e good = exact-of cs w m law same e good
-    exact-of (arrivalCall i b ∷ cs) w m law same e good = exact-arrival i b cs w m (law .0) (law .1) same e good
-        (exact-of cs (step ε w (arrivalCall i b)) (suc i) (law .2)
-        (λ k len h. same k len (omega (arith, law .0)) ∙ lost-skip n ε Rel laws 0 _ (arrivals ε cs) k len h) e)
-
-  -- two ends that start related are faithful
-  pub faithful : (s : C) (v : D) → ((c : ℕ) → Rel c 0 v s) → Faithful ε n s v
-  faithful s v start cs law bounded = exact-of (arrivals ε cs) (sends ε s cs) cs w 0 law (λ k len h. refl) refl
+  -- two ends that start related are ready for every arrival
+  pub ready : (s : C) (v : D) → ((c : ℕ) → Rel c 0 v s) → (cs : List (Call P B Q)) →
+      let w : World P L C D = record { compressor = s; decompressor = v; log = [] } in
+      Lawful ε w 0 cs → ((c : ℕ) → Bounded n (marks ε c (arrivals ε cs) 0 ((final ε w cs) .log))) → Ready ε w cs
+  ready s v start cs law bounded = ready-of (sends ε s cs) cs w 0 law refl
       (λ c. core n ε Rel laws c cs s v (arrivals ε cs) (start c) (rw (log-end cs w) at (ascends cs w 0 law)) (rw (log-end cs w) at (bounded c)))
     where
       w : World P L C D
       w = record { compressor = s; decompressor = v; log = [] }
+
+-- An arrival that is not lost has room, so ends that are ready are exact.
+module _ {P L B Q C D SA RA : Type 0} (ε : Ends P L B Q C D SA RA) where
+  module _ (whole : List (Arrival B)) where
+    exact-arrival : (i : ℕ) (b : B) (cs : List (Call P B Q)) (w : World P L C D) → lost ε whole i (ε .size (packetAt ε w i)) ≡ lost ε (record { index = i; buffer = b } ∷ arrivals ε cs) i (ε .size (packetAt ε w i)) →
+        Answers ε (packetAt ε w i) ((getD (w .log) i (ε .nothing)) .link) (w .decompressor) →
+        lost ε whole i (ε .size (packetAt ε w i)) ≡ false → ε .Right (packetAt ε w i) (arrived ε w i b)
+    exact-arrival i b cs w same right f =
+        let room-is : lost ε whole i (ε .size (packetAt ε w i)) ≡ ltb (ε .room b) (ε .size (packetAt ε w i)) = same ∙ rw (eq-eqb i i refl) in
+        right b .0 (ltb-false _ _ (sym room-is ∙ f))
+
+    exact-of : (cs : List (Call P B Q)) (w : World P L C D) (m : ℕ) → Lawful ε w m cs →
+        ((k len : ℕ) → m ≤ k → lost ε whole k len ≡ lost ε (arrivals ε cs) k len) → Ready ε w cs → Exact ε whole w cs
+    exact-of [] w m law same r = tt
+    exact-of (sendCall p b ∷ cs) w m law same r = exact-of cs (step ε w (sendCall p b)) m law same r
+    exact-of (requestCall q ∷ cs) w m law same r = exact-of cs (step ε w (requestCall q)) m law same r
+    exact-of (otherCall ∷ cs) w m law same r = exact-of cs w m law same r
+    exact-of (arrivalCall i b ∷ cs) w m law same r = (
+      exact-arrival i b cs w (same i (ε .size (packetAt ε w i)) (law .0)) (r .0),
+      exact-of cs (step ε w (arrivalCall i b)) (suc i) (law .2) (λ k len h. same k len (omega (arith, law .0)) ∙ lost-earlier ε (record { index = i; buffer = b }) (arrivals ε cs) k len h) (r .1),
+    )
+
+-- Two ends that start related are faithful.
+module _ {P L B Q C D SA RA : Type 0} (n : ℕ) (ε : Ends P L B Q C D SA RA) (Rel : ℕ → ℕ → D → C → Type 0) (laws : Laws n ε Rel) where
+  pub faithful : (s : C) (v : D) → ((c : ℕ) → Rel c 0 v s) → Faithful ε n s v
+  faithful s v start cs law bounded =
+      exact-of ε (arrivals ε cs) cs (record { compressor = s; decompressor = v; log = [] }) 0 law (λ k len h. refl) (ready n ε Rel laws s v start cs law bounded)
 
 -- a list's sends and requests
 abbrev pub quiet : {P B Q : Type 0} → List (Call P B Q) → List (Call P B Q)

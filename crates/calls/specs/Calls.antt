@@ -58,6 +58,7 @@ pub record Ends (P L B Q C D SA RA : Type 0) : Type 1 where
   pub receive : D → L → B → RA
   pub decompressor : RA → D
   pub Right : P → RA → Type 0  -- accepted, with this packet
+  pub Lacking : RA → Type 0  -- refused for want of room
   pub nothing : Sent P L
 
 module _ {P L B Q C D SA RA : Type 0} (ε : Ends P L B Q C D SA RA) where
@@ -114,6 +115,18 @@ module _ {P L B Q C D SA RA : Type 0} (ε : Ends P L B Q C D SA RA) where
   Exact ar w (otherCall ∷ cs) = Exact ar w cs
   Exact ar w (arrivalCall i b ∷ cs) =
       (lost ar i (ε .size (packetAt w i)) ≡ false → ε .Right (packetAt w i) (arrived w i b)) × Exact ar (step w (arrivalCall i b)) cs
+
+  -- a link packet of p is answered rightly by a decompressor's table, whatever the output
+  abbrev pub Answers : P → L → D → Type 0
+  Answers p l v = (b : B) → (ε .size p ≤ ε .room b → ε .Right p (ε .receive v l b)) × (ε .room b < ε .size p → ε .Lacking (ε .receive v l b))
+
+  -- each arrival, lost or not, finds a table that answers it rightly
+  abbrev pub Ready : World P L C D → List (Call P B Q) → Type 0
+  Ready w [] = Unit {0}
+  Ready w (sendCall p b ∷ cs) = Ready (step w (sendCall p b)) cs
+  Ready w (requestCall q ∷ cs) = Ready (step w (requestCall q)) cs
+  Ready w (otherCall ∷ cs) = Ready w cs
+  Ready w (arrivalCall i b ∷ cs) = Answers (packetAt w i) ((getD (w .log) i (ε .nothing)) .link) (w .decompressor) × Ready (step w (arrivalCall i b)) cs
 
   -- the claim, from two tables on
   abbrev pub Faithful : ℕ → C → D → Type 0

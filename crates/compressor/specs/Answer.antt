@@ -1,0 +1,51 @@
+-- Iarwennol. What a call of the compressor answers, and what it leaves (rules 3.1, 3.5).
+-- Used by the contract of every call: number, type, length, output and table are those of one definition.
+use Prim.Native.Nat.{ℕ}
+use mathlib.Core.Bool.{cond}
+use mathlib.Core.List.{List}
+use lib.Dec.{ltb}
+use lib.ListN.{length}
+use Rattle.bytes.specs.Put.{fronted}
+use Rattle.context.specs.Refusal as refusal
+use Rattle.compressor.specs.declared.answer.Outcome.{Outcome}
+use Rattle.compressor.specs.declared.answer.Outcome.the-variants.{Accepted, Refused}
+use Rattle.compressor.specs.declared.answer.Answer.{Answer}
+use Rattle.compressor.specs.declared.table.Table.{Table}
+
+-- number (0: accepted), link type and length of what was given out, the output after the call, the table after the call
+pub record Result : Type 0 where
+  pub number : ℕ
+  pub kind : ℕ
+  pub length : ℕ
+  pub output : List ℕ
+  pub table : Table
+
+-- rule 3.5: the bytes at the front of the output
+abbrev pub accepted : Table → (kind : ℕ) → (bytes output : List ℕ) → Result
+accepted t k bytes output = record { number = 0; kind = k; length = length bytes; output = fronted output bytes; table = t }
+
+-- rule 3.1: type 0, length 0, table and output as they were
+abbrev pub refused : Table → (number : ℕ) → (output : List ℕ) → Result
+refused t n output = record { number = n; kind = 0; length = 0; output = output; table = t }
+
+-- 11 where the output is shorter than the exact result
+abbrev pub delivered : (before after : Table) → (kind : ℕ) → (bytes output : List ℕ) → Result
+delivered before after k bytes output = cond (ltb (length output) (length bytes)) (refused before 11 output) (accepted after k bytes output)
+
+---- number and values of each outcome
+
+abbrev pub numberOf : Outcome → ℕ
+numberOf (Accepted k n) = 0
+numberOf (Refused r) = refusal.numberOf r
+
+abbrev pub typeOf : Outcome → ℕ
+typeOf (Accepted k n) = k
+typeOf (Refused r) = 0
+
+abbrev pub lengthOf : Outcome → ℕ
+lengthOf (Accepted k n) = n
+lengthOf (Refused r) = 0
+
+-- what a call's answer says, with the output that it left
+abbrev pub said : Answer → (output : List ℕ) → Result
+said a output = record { number = numberOf (a .outcome); kind = typeOf (a .outcome); length = lengthOf (a .outcome); output = output; table = a .table }

@@ -1,0 +1,98 @@
+-- Iarwennol. Laws of the compressor's table: what it takes to stay sound. Assume nothing.
+-- Used by the laws of send and request, and by the theorem on lists of calls (crtp).
+use Prim.Native.Nat.{ℕ, zero, suc, _+_, _-_, _<_, _≤_}
+use mathlib.Core.Path.{_≡_, refl, sym, _∙_}
+use mathlib.Core.Bool.{Bool, true, false, cond, _&&_, and-eq-true-iff}
+use mathlib.Core.List.{List, [], _∷_}
+use native.Mathlib.Omega.{arith}
+use lib.ListN.{length, getD, set, drop, replicate}
+use lib.Seq.{drop-set-lt}
+use Rattle.settings.specs.Settings as settings
+use Rattle.settings.specs.SettingsLaws.{range-repeats, range-least, range-most}
+use Rattle.settings.specs.declared.Settings.{Settings}
+use Rattle.settings.specs.declared.Opened.the-variants as opened
+use Rattle.context.specs.All.{all}
+use Rattle.context.specs.Sound.{soundCompressor, emptyCompressor}
+use Rattle.context.proofs.CompressorSound.{sound-empty}
+use Rattle.context.specs.declared.compressor.CompressorContext.{CompressorContext}
+use Rattle.compressor.specs.declared.table.Table.{Table}
+use Rattle.compressor.specs.Table.{noContext, contextAt, withContext, isEmpty, soundOf, emptyTable, openOf, openBy}
+
+---- all
+
+module _ {A : Type 0} (f : A → Bool) where
+  pub all-getD : (l : List A) (i : ℕ) (d : A) → i < length l → all f l ≡ true → f (getD l i d) ≡ true
+  all-getD [] i d h e = absurd (omega arith)
+  all-getD (x ∷ xs) zero d h e = and-eq-true-iff (f x) (all f xs) .0 e .0
+  all-getD (x ∷ xs) (suc i) d h e = all-getD xs i d (omega arith) (and-eq-true-iff (f x) (all f xs) .0 e .1)
+
+  pub all-set : (l : List A) (i : ℕ) (y : A) → f y ≡ true → all f l ≡ true → all f (set l i y) ≡ true
+  all-set [] i y h e = refl
+  all-set (x ∷ xs) zero y h e = rw h (and-eq-true-iff (f x) (all f xs) .0 e .1)
+  all-set (x ∷ xs) (suc i) y h e =
+      let p = and-eq-true-iff (f x) (all f xs) .0 e in
+      rw (p .0) (all-set xs i y h (p .1))
+
+  pub all-replicate : (n : ℕ) (x : A) → f x ≡ true → all f (replicate n x) ≡ true
+  all-replicate zero x h = refl
+  all-replicate (suc n) x h = rw h (all-replicate n x h)
+
+  pub all-dropped : (n : ℕ) (l : List A) → all f l ≡ true → all f (drop n l) ≡ true
+  all-dropped zero l e = e
+  all-dropped (suc n) [] e = refl
+  all-dropped (suc n) (x ∷ xs) e = all-dropped n xs (and-eq-true-iff (f x) (all f xs) .0 e .1)
+
+---- soundOf
+
+-- what a sound table is made of
+pub record Sound (t : Table) : Type 0 where
+  pub settings : settings.sound (t .settings) ≡ true
+  pub contexts : all (soundCompressor (t .settings .repeats)) (t .contexts) ≡ true
+  pub rest : all isEmpty (drop (t .settings .contexts) (t .contexts)) ≡ true
+
+module _ (t : Table) where
+  abbrev firstTwo : Bool
+  firstTwo = settings.sound (t .settings) && all (soundCompressor (t .settings .repeats)) (t .contexts)
+
+  pub soundOf-true : soundOf t ≡ true → Sound t
+  unfolding soundOf
+  soundOf-true e =
+      let p = and-eq-true-iff firstTwo (all isEmpty (drop (t .settings .contexts) (t .contexts))) .0 e in
+      let q = and-eq-true-iff (settings.sound (t .settings)) (all (soundCompressor (t .settings .repeats)) (t .contexts)) .0 (p .0) in
+      record { settings = q .0; contexts = q .1; rest = p .1 }
+
+  pub soundOf-made : Sound t → soundOf t ≡ true
+  unfolding soundOf
+  soundOf-made s = rw (s .settings, s .contexts, s .rest)
+
+-- a sound table stays sound when a context that the settings give is replaced by a sound one
+pub sound-withContext : (t : Table) (i : ℕ) (c : CompressorContext) → Sound t → i < t .settings .contexts
+    → soundCompressor (t .settings .repeats) c ≡ true → Sound (withContext t i c)
+sound-withContext t i c s h e = record {
+  settings = s .settings;
+  contexts = all-set (soundCompressor (t .settings .repeats)) (t .contexts) i c e (s .contexts);
+  rest = rw (drop-set-lt (t .settings .contexts) (t .contexts) i c h) (s .rest);
+}
+
+-- an accepted opening is sound
+pub sound-emptyTable : (s : Settings) → settings.sound s ≡ true → Sound (emptyTable s)
+unfolding emptyCompressor
+sound-emptyTable s e = record {
+  settings = e;
+  contexts = all-replicate (soundCompressor (s .repeats)) 64 emptyCompressor (sound-empty (s .repeats));
+  rest = all-dropped isEmpty (s .contexts) (replicate 64 emptyCompressor) (all-replicate isEmpty 64 emptyCompressor refl);
+}
+
+-- an opening that is accepted had settings in range, and leaves a table with nothing in it
+module _ (t : Table) (n k : ℕ) where
+  abbrev chosen : Settings
+  chosen = record { repeats = n; contexts = k }
+
+  openBy-accepted : (b : Bool) → openBy t (cond b (opened.Ready chosen) opened.Refused) .number ≡ 0
+      → (b ≡ true) × (openBy t (cond b (opened.Ready chosen) opened.Refused) .table ≡ emptyTable chosen)
+  openBy-accepted true e = (refl, refl)
+  openBy-accepted false e = absurd (omega arith)
+
+  pub openOf-accepted : openOf t n k .number ≡ 0 → (settings.inRange n k ≡ true) × (openOf t n k .table ≡ emptyTable chosen)
+  unfolding openOf settings.openOf
+  openOf-accepted e = openBy-accepted (settings.inRange n k) e

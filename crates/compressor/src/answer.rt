@@ -1,0 +1,16 @@
+use crate::table::Table;
+use context::refusal::Refusal;
+
+// What became of a call: accepted with the link type and the length of what it gave out, or refused.
+//
+// An opening and a request give nothing out: type 0, length 0.
+pub enum Outcome {
+    Accepted(u8, usize),
+    Refused(Refusal),
+}
+
+// The outcome, with the table that the call leaves. (An enum cannot hold the table's array.)
+pub struct Answer {
+    pub outcome: Outcome,
+    pub table: Table,
+}

@@ -1,0 +1,124 @@
+-- Iarwennol. The list of specs/Example.antt meets the premises, and its answers are computed. Assumes nothing.
+-- So the theorem is about something: a lost full header, a lost CU, an arrival without room, a late arrival, a plain packet.
+use Prim.Native.Nat.{ℕ, zero, suc, _≤_, _<_}
+use mathlib.Core.Path.{_≡_, refl, sym, ap, _∙_}
+use mathlib.Core.Bool.{Bool, true, false, cond, _&&_, and-eq-true-iff}
+use mathlib.Core.List.{List, [], _∷_, _++_}
+use native.Mathlib.Omega.{arith}
+use borrow.Author.Tests.{ltb-true, eqb-true}
+use lib.Dec.{eqb, ltb, lit≤}
+use lib.ListN.{length, take, replicate}
+use Rattle.codes.specs.Bytes.{AllBytes, none, more}
+use Rattle.compressor.specs.Table as compressing
+use Rattle.decompressor.specs.Table as decompressing
+use Rattle.settings.specs.Settings as settings
+use Rattle.bytes.specs.Sum.{plus}
+use Rattle.codes.specs.Code.{codeOf}
+use Rattle.codes.specs.Difference.{difference, sum, hasCode}
+use Rattle.codes.specs.Reading.{readByte, readWord, readLong, readBy}
+use Rattle.compressor.specs.Lookup.{placeOf}
+use Rattle.compressor.specs.Request.{requestOf}
+use Rattle.compressor.specs.Send.{stepOn, linkBytes, sendAt, sendOf}
+use Rattle.context.specs.Compressor.{first, started, sameConstants, begun, startedUnlessDue, requested, reset, adoptsId, adoptsTimestamp, judged, dueNow, anyDue, kindOf, listIf, partsOf, dueAfter, deltasAfter, moved, sentWith, stepOf, firstStep}
+use Rattle.context.specs.Decompressor.{filled, gapOutcome, outcomeBy, outcomeOf, ipAfter, rtpAfter, deltasHeld, advanced, broke, settled, applied, rebuilt}
+use Rattle.context.specs.Field.{nextSequence, nextGeneration, offPattern, counted, isDue, gap, movedOn}
+use Rattle.context.specs.Sound.{soundList, soundLink, soundDue, zeroList, usedSound, unusedSound, soundCompressorBy, soundCompressor, filledSound, unfilledSound, soundDecompressorBy, soundDecompressor, emptyCompressor, emptyDecompressor}
+use Rattle.decompressor.specs.Receive.{receiveFull, oldForm, receiveCompressed, receiveKind, receiveBy}
+use Rattle.fields.specs.Next.{next, readPayload, nextByte, nextWord, nextLong, nextDelta16, nextDelta32, nextPayload}
+use Rattle.headers.specs.Checksum.{ipChecksumOf, ipChecksum}
+use Rattle.headers.specs.Compressible.{fixedForm, compressible}
+use Rattle.headers.specs.Header.{rtpAt, flowOf, ipOf, headerOf, ipFront, ipBack, udpBytes, rtpFixed, headerBytes}
+use Rattle.links.specs.Cr.{crBytes, secondWith, secondOf, deltasOf, crRest, crOf}
+use Rattle.refresh.specs.Cs.{recordWith, recordJudged, requestJudged}
+use Rattle.links.specs.Cu.{cuBytes, changesOf, valuesOf, cuRest, cuOf}
+use Rattle.refresh.specs.Fh.{fhBytes, fieldsForm, fhJudged, fhOf}
+use Rattle.links.specs.Head.{headOf}
+use Rattle.packet.specs.Csrc.{sameList}
+use Rattle.crtp.specs.Robust.{Bytes, Call, send, request, arrival, other, World, Sent, step, after, Ordered, losses, Bounded, Opened, Premises}
+use Rattle.crtp.proofs.Calm.{bounded-calm}
+use Rattle.crtp.specs.Example.{areBytes, packet0, packet1, packet2, packet3, packet4, packet5, odd, asks, Shown, answers}
+
+areBytes-all : (l : List ℕ) → areBytes l ≡ true → AllBytes l
+areBytes-all [] e = none
+areBytes-all (b ∷ bs) e =
+    let p = and-eq-true-iff (ltb b 256) (areBytes bs) .0 e in
+    more (ltb-true b 256 (p .0)) (areBytes-all bs (p .1))
+
+abbrev bytes : (l : List ℕ) → areBytes l ≡ true → Bytes
+bytes l e = record { list = l; small = areBytes-all l e }
+
+abbrev wide : Bytes
+wide = bytes (replicate 44 0xAA) refl
+
+abbrev narrow : Bytes
+narrow = bytes (replicate 10 0xAA) refl
+
+abbrev start : World
+start = record { compressor = compressing.emptyTable (record { repeats = 1; contexts = 2 }); decompressor = decompressing.emptyTable (record { repeats = 1; contexts = 2 }); sent = [] }
+
+abbrev list : List Call
+list =
+    send (bytes packet0 refl) wide
+    ∷ send (bytes packet1 refl) wide
+    ∷ arrival 1 wide
+    ∷ send (bytes packet2 refl) wide
+    ∷ send (bytes packet3 refl) wide
+    ∷ request (bytes asks refl)
+    ∷ send (bytes packet4 refl) wide
+    ∷ arrival 3 wide
+    ∷ arrival 4 narrow
+    ∷ send (bytes packet5 refl) wide
+    ∷ other
+    ∷ send (bytes odd refl) wide
+    ∷ arrival 5 wide
+    ∷ arrival 6 wide
+    ∷ []
+
+abbrev shown : ℕ → List ℕ → Shown
+shown n b = record { number = n; bytes = b }
+
+answers-are : answers start list ≡ shown 0 packet1 ∷ shown 0 packet3 ∷ shown 11 [] ∷ shown 0 packet5 ∷ shown 0 odd ∷ []
+unfolding compressing.soundOf decompressing.soundOf plus codeOf difference sum hasCode readByte readWord readLong readBy placeOf requestOf stepOn linkBytes sendAt sendOf first started sameConstants begun startedUnlessDue requested reset adoptsId adoptsTimestamp judged dueNow anyDue kindOf listIf partsOf dueAfter deltasAfter moved sentWith stepOf firstStep filled gapOutcome outcomeBy outcomeOf ipAfter rtpAfter deltasHeld advanced broke settled applied rebuilt nextSequence nextGeneration offPattern counted isDue gap movedOn soundList soundLink soundDue zeroList usedSound unusedSound soundCompressorBy soundCompressor filledSound unfilledSound soundDecompressorBy soundDecompressor emptyCompressor emptyDecompressor receiveFull oldForm receiveCompressed receiveKind receiveBy next readPayload nextByte nextWord nextLong nextDelta16 nextDelta32 nextPayload ipChecksumOf ipChecksum fixedForm compressible rtpAt flowOf ipOf headerOf ipFront ipBack udpBytes rtpFixed headerBytes crBytes secondWith secondOf deltasOf crRest crOf recordWith recordJudged requestJudged cuBytes changesOf valuesOf cuRest cuOf fhBytes fieldsForm fhJudged fhOf headOf sameList
+answers-are = refl
+
+-- two full headers, two CU, two full headers by request, one plain packet
+abbrev kinds : List Sent → List ℕ
+kinds [] = []
+kinds (e ∷ es) = e .kind ∷ kinds es
+
+kinds-are : kinds (after start list .sent) ≡ 1 ∷ 1 ∷ 2 ∷ 2 ∷ 1 ∷ 1 ∷ 0 ∷ []
+unfolding compressing.soundOf decompressing.soundOf plus codeOf difference sum hasCode readByte readWord readLong readBy placeOf requestOf stepOn linkBytes sendAt sendOf first started sameConstants begun startedUnlessDue requested reset adoptsId adoptsTimestamp judged dueNow anyDue kindOf listIf partsOf dueAfter deltasAfter moved sentWith stepOf firstStep filled gapOutcome outcomeBy outcomeOf ipAfter rtpAfter deltasHeld advanced broke settled applied rebuilt nextSequence nextGeneration offPattern counted isDue gap movedOn soundList soundLink soundDue zeroList usedSound unusedSound soundCompressorBy soundCompressor filledSound unfilledSound soundDecompressorBy soundDecompressor emptyCompressor emptyDecompressor receiveFull oldForm receiveCompressed receiveKind receiveBy next readPayload nextByte nextWord nextLong nextDelta16 nextDelta32 nextPayload ipChecksumOf ipChecksum fixedForm compressible rtpAt flowOf ipOf headerOf ipFront ipBack udpBytes rtpFixed headerBytes crBytes secondWith secondOf deltasOf crRest crOf recordWith recordJudged requestJudged cuBytes changesOf valuesOf cuRest cuOf fhBytes fieldsForm fhJudged fhOf headOf sameList
+kinds-are = refl
+
+---- The premises
+
+losses-on : losses 0 list 0 (after start list .sent) ≡ true ∷ false ∷ true ∷ false ∷ true ∷ false ∷ []
+unfolding compressing.soundOf decompressing.soundOf plus codeOf difference sum hasCode readByte readWord readLong readBy placeOf requestOf stepOn linkBytes sendAt sendOf first started sameConstants begun startedUnlessDue requested reset adoptsId adoptsTimestamp judged dueNow anyDue kindOf listIf partsOf dueAfter deltasAfter moved sentWith stepOf firstStep filled gapOutcome outcomeBy outcomeOf ipAfter rtpAfter deltasHeld advanced broke settled applied rebuilt nextSequence nextGeneration offPattern counted isDue gap movedOn soundList soundLink soundDue zeroList usedSound unusedSound soundCompressorBy soundCompressor filledSound unfilledSound soundDecompressorBy soundDecompressor emptyCompressor emptyDecompressor receiveFull oldForm receiveCompressed receiveKind receiveBy next readPayload nextByte nextWord nextLong nextDelta16 nextDelta32 nextPayload ipChecksumOf ipChecksum fixedForm compressible rtpAt flowOf ipOf headerOf ipFront ipBack udpBytes rtpFixed headerBytes crBytes secondWith secondOf deltasOf crRest crOf recordWith recordJudged requestJudged cuBytes changesOf valuesOf cuRest cuOf fhBytes fieldsForm fhJudged fhOf headOf sameList
+losses-on = refl
+
+losses-off : (c : ℕ) → eqb 0 c ≡ false → losses c list 0 (after start list .sent) ≡ []
+unfolding compressing.soundOf decompressing.soundOf plus codeOf difference sum hasCode readByte readWord readLong readBy placeOf requestOf stepOn linkBytes sendAt sendOf first started sameConstants begun startedUnlessDue requested reset adoptsId adoptsTimestamp judged dueNow anyDue kindOf listIf partsOf dueAfter deltasAfter moved sentWith stepOf firstStep filled gapOutcome outcomeBy outcomeOf ipAfter rtpAfter deltasHeld advanced broke settled applied rebuilt nextSequence nextGeneration offPattern counted isDue gap movedOn soundList soundLink soundDue zeroList usedSound unusedSound soundCompressorBy soundCompressor filledSound unfilledSound soundDecompressorBy soundDecompressor emptyCompressor emptyDecompressor receiveFull oldForm receiveCompressed receiveKind receiveBy next readPayload nextByte nextWord nextLong nextDelta16 nextDelta32 nextPayload ipChecksumOf ipChecksum fixedForm compressible rtpAt flowOf ipOf headerOf ipFront ipBack udpBytes rtpFixed headerBytes crBytes secondWith secondOf deltasOf crRest crOf recordWith recordJudged requestJudged cuBytes changesOf valuesOf cuRest cuOf fhBytes fieldsForm fhJudged fhOf headOf sameList
+losses-off c e = rw e
+
+bounded-by : (c : ℕ) (b : Bool) → eqb 0 c ≡ b → Bounded 1 (losses c list 0 (after start list .sent))
+bounded-by c true e = rw (← eqb-true 0 c e, losses-on) (bounded-calm 1 (true ∷ false ∷ true ∷ false ∷ true ∷ false ∷ []) refl)
+bounded-by c false e = rw (losses-off c e) (bounded-calm 1 [] refl)
+
+opened : Opened 1 2 start
+unfolding compressing.openOf decompressing.openOf settings.openOf
+opened = record {
+  earlierC = start .compressor;
+  earlierD = start .decompressor;
+  acceptedC = refl;
+  acceptedD = refl;
+  compressor = refl;
+  decompressor = refl;
+  nothing = refl;
+}
+
+ordered : Ordered start 0 list
+unfolding compressing.soundOf decompressing.soundOf plus codeOf difference sum hasCode readByte readWord readLong readBy placeOf requestOf stepOn linkBytes sendAt sendOf first started sameConstants begun startedUnlessDue requested reset adoptsId adoptsTimestamp judged dueNow anyDue kindOf listIf partsOf dueAfter deltasAfter moved sentWith stepOf firstStep filled gapOutcome outcomeBy outcomeOf ipAfter rtpAfter deltasHeld advanced broke settled applied rebuilt nextSequence nextGeneration offPattern counted isDue gap movedOn soundList soundLink soundDue zeroList usedSound unusedSound soundCompressorBy soundCompressor filledSound unfilledSound soundDecompressorBy soundDecompressor emptyCompressor emptyDecompressor receiveFull oldForm receiveCompressed receiveKind receiveBy next readPayload nextByte nextWord nextLong nextDelta16 nextDelta32 nextPayload ipChecksumOf ipChecksum fixedForm compressible rtpAt flowOf ipOf headerOf ipFront ipBack udpBytes rtpFixed headerBytes crBytes secondWith secondOf deltasOf crRest crOf recordWith recordJudged requestJudged cuBytes changesOf valuesOf cuRest cuOf fhBytes fieldsForm fhJudged fhOf headOf sameList
+ordered = (lit≤ tt, lit≤ tt, (lit≤ tt, lit≤ tt, (lit≤ tt, lit≤ tt, (lit≤ tt, lit≤ tt, (lit≤ tt, lit≤ tt, tt)))))
+
+premises : Premises 1 2 start list
+premises = record { opened = opened; ordered = ordered; bounded = λ c. bounded-by c (eqb 0 c) refl }

@@ -1,0 +1,3 @@
+pub mod Robust
+pub mod Alike
+pub mod Example

@@ -1,0 +1,145 @@
+-- Iarwennol. Robustness, stated (rules 10.1 to 10.5): one claim about whole lists of calls, over bytes, about the very definitions
+-- that the contracts of the calls cite. This file can be read alone; its proof is `robust` (proofs/Robust.antt).
+use Prim.Native.Nat.{ℕ, suc, _≤_, _<_}
+use mathlib.Core.Path.{_≡_}
+use mathlib.Core.Bool.{Bool, true, false, cond}
+use mathlib.Core.List.{List, [], _∷_, _++_}
+use mathlib.Core.Option.{Option, none, some}
+use lib.Dec.{eqb, ltb}
+use lib.ListN.{length, getD, take, replicate}
+use Rattle.codes.specs.Bytes.{AllBytes}
+use Rattle.compressor.specs.declared.table.Table as compressor
+use Rattle.compressor.specs.Answer as sending
+use Rattle.compressor.specs.Table as compressing
+use Rattle.compressor.specs.Send.{sendOf}
+use Rattle.compressor.specs.Request.{requestOf}
+use Rattle.decompressor.specs.declared.table.Table as decompressor
+use Rattle.decompressor.specs.Answer as receiving
+use Rattle.decompressor.specs.Table as decompressing
+use Rattle.decompressor.specs.Receive.{receiveOf}
+
+-- any bytes
+pub record Bytes : Type 0 where
+  pub list : List ℕ
+  pub small : AllBytes list
+
+---- The list of calls (rule 10.1)
+
+-- a send of any bytes; a request of any bytes; the arrival of what the i-th accepted send gave out (the first is the 0th); a call that
+-- leaves both tables, as a report does. Sends and arrivals have an output of any length
+pub data Call : Type 0 where
+  send : (packet output : Bytes) → Call
+  request : (bytes : Bytes) → Call
+  arrival : (i : ℕ) (output : Bytes) → Call
+  other : Call
+
+-- a packet that an accepted send was handed, with the link type and a copy of the bytes that it gave out
+pub record Sent : Type 0 where
+  pub packet : List ℕ
+  pub kind : ℕ
+  pub bytes : List ℕ
+
+-- both ends' tables, and what was given out so far, in order
+pub record World : Type 0 where
+  pub compressor : compressor.Table
+  pub decompressor : decompressor.Table
+  pub sent : List Sent
+
+abbrev pub givenOut : List ℕ → sending.Result → List Sent
+givenOut p r = cond (eqb (r .number) 0) (record { packet = p; kind = r .kind; bytes = take (r .length) (r .output) } ∷ []) []
+
+-- the i-th packet given out
+abbrev pub sentAt : World → ℕ → Sent
+sentAt w i = getD (w .sent) i (record { packet = []; kind = 0; bytes = [] })
+
+-- what an arrival of it answers
+abbrev pub answer : World → (i : ℕ) (output : Bytes) → receiving.Result
+answer w i output = receiveOf (w .decompressor) (sentAt w i .kind) (sentAt w i .bytes) (output .list)
+
+-- each call gets the table that the last call at its end returned, refused or not
+abbrev pub step : World → Call → World
+step w (send p output) =
+    let r = sendOf (w .compressor) (p .list) (output .list) in
+    record { compressor = r .table; decompressor = w .decompressor; sent = w .sent ++ givenOut (p .list) r }
+step w (request q) = record { compressor = requestOf (w .compressor) (q .list) .table; decompressor = w .decompressor; sent = w .sent }
+step w (arrival i output) = record { compressor = w .compressor; decompressor = answer w i output .table; sent = w .sent }
+step w other = w
+
+abbrev pub after : World → List Call → World
+after w [] = w
+after w (x ∷ xs) = after (step w x) xs
+
+---- Arrivals (rule 10.2)
+
+-- each is of an accepted send earlier in the list; they come in the order of their sends, and none twice. m: the first that may arrive
+abbrev pub Ordered : World → (m : ℕ) → List Call → Type 0
+Ordered w m [] = Unit {0}
+Ordered w m (send p output ∷ xs) = Ordered (step w (send p output)) m xs
+Ordered w m (request q ∷ xs) = Ordered (step w (request q)) m xs
+Ordered w m (arrival i output ∷ xs) = (m ≤ i) × (i < length (w .sent)) × Ordered (step w (arrival i output)) (suc i) xs
+Ordered w m (other ∷ xs) = Ordered w m xs
+
+---- What is lost (rule 10.3)
+
+-- the context number that a link packet carries, by its type: a plain one is on none
+abbrev pub contextOf : Sent → Option ℕ
+contextOf e = cond (eqb (e .kind) 0) none (cond (eqb (e .kind) 1) (some (getD (e .bytes) 3 0)) (some (getD (e .bytes) 0 0)))
+
+abbrev pub isOn : Option ℕ → ℕ → Bool
+isOn none c = false
+isOn (some d) c = eqb d c
+
+-- whether the i-th packet, of so many bytes, is lost: in the order of the list, the first arrival of it or of a later one decides.
+-- Its own has less output than the packet that went in; or a later one comes first
+abbrev pub lost : List Call → (i size : ℕ) → Bool
+lost [] i size = false
+lost (send p output ∷ xs) i size = lost xs i size
+lost (request q ∷ xs) i size = lost xs i size
+lost (arrival k output ∷ xs) i size = cond (eqb k i) (ltb (length (output .list)) size) (cond (ltb i k) true (lost xs i size))
+lost (other ∷ xs) i size = lost xs i size
+
+---- How many may be lost (rule 10.4)
+
+-- of the packets on one context number, in the order sent, which are lost; i: the first one's number
+abbrev pub losses : (context : ℕ) → List Call → (i : ℕ) → List Sent → List Bool
+losses c xs i [] = []
+losses c xs i (e ∷ es) = cond (isOn (contextOf e) c) (lost xs i (length (e .packet)) ∷ losses c xs (suc i) es) (losses c xs (suc i) es)
+
+-- n + 1 next to each other are never all lost
+abbrev pub Bounded : ℕ → List Bool → Type 0
+Bounded n marks = (a b : List Bool) → marks ≡ a ++ (replicate (suc n) true ++ b) → ⊥
+
+---- The claim (rule 10.5)
+
+-- accepted, with the length of the packet that went in, its bytes at the front of the output
+pub record Rebuilt (packet : List ℕ) (r : receiving.Result) : Type 0 where
+  pub accepted : r .number ≡ 0
+  pub whole : r .length ≡ length packet
+  pub exact : take (length packet) (r .output) ≡ packet
+
+-- every arrival that is not lost is rebuilt; all: the whole list
+abbrev pub Exact : (all : List Call) → World → List Call → Type 0
+Exact all w [] = Unit {0}
+Exact all w (send p output ∷ xs) = Exact all (step w (send p output)) xs
+Exact all w (request q ∷ xs) = Exact all (step w (request q)) xs
+Exact all w (arrival i output ∷ xs) =
+    (lost all i (length (sentAt w i .packet)) ≡ false → Rebuilt (sentAt w i .packet) (answer w i output)) × Exact all (step w (arrival i output)) xs
+Exact all w (other ∷ xs) = Exact all w xs
+
+-- both tables as accepted openings with the same settings left them, whatever was there before
+pub record Opened (n k : ℕ) (w : World) : Type 0 where
+  pub earlierC : compressor.Table
+  pub earlierD : decompressor.Table
+  pub acceptedC : compressing.openOf earlierC n k .number ≡ 0
+  pub acceptedD : decompressing.openOf earlierD n k .number ≡ 0
+  pub compressor : w .compressor ≡ compressing.openOf earlierC n k .table
+  pub decompressor : w .decompressor ≡ decompressing.openOf earlierD n k .table
+  pub nothing : w .sent ≡ []
+
+pub record Premises (n k : ℕ) (w : World) (xs : List Call) : Type 0 where
+  pub opened : Opened n k w
+  pub ordered : Ordered w 0 xs
+  pub bounded : (c : ℕ) → Bounded n (losses c xs 0 (after w xs .sent))
+
+abbrev pub Robust : Type 0
+Robust = (n k : ℕ) (w : World) (xs : List Call) → Premises n k w xs → Exact xs w xs

@@ -1,0 +1,1 @@
+// What users of the compressor and the decompressor depend on.

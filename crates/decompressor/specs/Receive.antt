@@ -1,0 +1,147 @@
+-- Iarwennol. An arrival (rules 3.3 to 3.5, 6, 7): what the decompressor makes of a link packet.
+-- Used by the contract of receive, and by the theorem on lists of calls (crtp), which is about this very definition.
+use Prim.Native.Nat.{ℕ, _+_, _-_}
+use mathlib.Core.Bool.{Bool, true, false, cond, _&&_}
+use mathlib.Core.List.{List, [], _∷_, _++_}
+use lib.Dec.{eqb, leb, ltb}
+use lib.ListN.{length, drop}
+use Rattle.codes.specs.Reading.{byteAt}
+use Rattle.packet.specs.declared.header.Header.{Header}
+use Rattle.fields.specs.Place.{isGood}
+use Rattle.fields.specs.Place as place
+use Rattle.fields.specs.declared.place.Place.{Place}
+use Rattle.headers.specs.Header.{headerSize}
+use Rattle.headers.specs.Checksum.{printed}
+use Rattle.links.specs.declared.head.Head.{Head}
+use Rattle.links.specs.declared.head.ReadParts.{ReadParts}
+use Rattle.links.specs.declared.whole.ReadWhole.{ReadWhole}
+use Rattle.links.specs.Head.{contextOf, headOf}
+use Rattle.links.specs.Cu.{cuOf}
+use Rattle.links.specs.Cr.{crOf}
+use Rattle.links.specs.Whole.{wholeOf}
+use Rattle.refresh.specs.declared.fh.FullHeader.{FullHeader}
+use Rattle.refresh.specs.declared.judgement.Judgement.{Judgement}
+use Rattle.refresh.specs.declared.judgement.Judgement.the-variants.{Good, Cut, Forbidden, NoSuchContext}
+use Rattle.refresh.specs.Fh.{fhJudged, fhOf}
+use Rattle.context.specs.Refusal as refusal
+use Rattle.context.specs.Decompressor.{filled, broke, applied, appliedWhole, rebuilt}
+use Rattle.context.specs.declared.decompressor.Status.{Status}
+use Rattle.context.specs.declared.decompressor.Status.the-variants.{Empty, Live, Broken}
+use Rattle.context.specs.declared.decompressor.DecompressorContext.{DecompressorContext}
+use Rattle.context.specs.declared.decompressor.Outcome.{Outcome}
+use Rattle.context.specs.declared.decompressor.Outcome.the-variants.{Accepted, Refused}
+use Rattle.context.specs.declared.decompressor.Applied.{Applied}
+use Rattle.decompressor.specs.declared.table.Table.{Table}
+use Rattle.decompressor.specs.Answer.{Result, accepted, refused, delivered}
+use Rattle.decompressor.specs.Table.{soundOf, contextAt, withContext}
+
+---- The rebuilt packet
+
+-- rule 7.8: the header h, its lengths and IP checksum worked out, then the rest
+abbrev pub packetOf : Header → (rest : List ℕ) → List ℕ
+packetOf h rest = printed h (headerSize h + length rest) ++ rest
+
+---- Plain
+
+abbrev pub receivePlain : Table → (s output : List ℕ) → Result
+receivePlain t s output = delivered t t s output
+
+---- FULL_HEADER (rules 6.1, 7.1)
+
+-- the table with the context set
+abbrev pub fullTable : Table → FullHeader → Table
+fullTable t f = withContext t (f .context) (filled (f .header) (record { sequence = f .link; generation = f .generation }))
+
+abbrev pub receiveFullBy : Judgement → Table → FullHeader → (s output : List ℕ) → Result
+receiveFullBy Good t f s output = delivered t (fullTable t f) (packetOf (f .header) (drop (f .start) s)) output
+receiveFullBy Cut t f s output = refused t 4 output
+receiveFullBy Forbidden t f s output = refused t 5 output
+receiveFullBy NoSuchContext t f s output = refused t 6 output
+
+unfoldable pub receiveFull : Table → (s output : List ℕ) → Result
+receiveFull t s output = receiveFullBy (fhJudged (t .settings .contexts) s) t (fhOf s) s output
+
+---- COMPRESSED_UDP and COMPRESSED_RTP, on the context at place i
+
+-- accepted by its context: 10, then 11. sent: the UDP checksum that was read; rest: what follows the fields
+abbrev pub rebuildTo : (before : Table) → (i : ℕ) → DecompressorContext → (sent : ℕ) → (rest output : List ℕ) → Result
+rebuildTo before i c sent rest output =
+    cond (ltb 1500 (headerSize (rebuilt c sent) + length rest))
+    (refused before 10 output)
+    (delivered before (withContext before i c) (packetOf (rebuilt c sent) rest) output)
+
+-- what its context made of it: 8 and 9 leave the context broken
+abbrev pub settleBy : Outcome → Table → (i : ℕ) → DecompressorContext → (sent : ℕ) → (rest output : List ℕ) → Result
+settleBy Accepted t i c sent rest output = rebuildTo t i c sent rest output
+settleBy (Refused r) t i c sent rest output = refused (withContext t i c) (refusal.numberOf r) output
+
+abbrev pub settle : Applied → Table → (i : ℕ) → (sent : ℕ) → (rest output : List ℕ) → Result
+settle a t i sent rest output = settleBy (a .outcome) t i (a .context) sent rest output
+
+-- the fields, read to their end or refused on the way with the context as it was
+abbrev pub settleRead : Place → Applied → Table → (i : ℕ) → (sent : ℕ) → (s output : List ℕ) → Result
+settleRead p a t i sent s output =
+    cond (isGood (p .outcome)) (settle a t i sent (drop (p .cursor .at) s) output) (refused t (place.numberOf (p .outcome)) output)
+
+abbrev pub receiveParts : ReadParts → Table → (i q : ℕ) → (s output : List ℕ) → Result
+receiveParts r t i q s output = settleRead (r .place) (applied (t .settings .repeats) q (contextAt t i) (r .parts)) t i (r .parts .checksum) s output
+
+-- a CU without F, read whole
+abbrev pub receiveWhole : ReadWhole → Table → (i q : ℕ) → (s output : List ℕ) → Result
+receiveWhole r t i q s output =
+    settleRead (r .place) (appliedWhole (t .settings .repeats) q (contextAt t i) (r .parts) (r .header)) t i (r .parts .checksum) s output
+
+-- how a CU without F is taken: from the table, the context's place, the flag byte and the bytes. A later reading may replace it
+abbrev pub OldForm : Type 0
+OldForm = Table → (i : ℕ) → Head → (s output : List ℕ) → Result
+
+unfoldable pub oldForm : OldForm
+oldForm t i h s output = receiveWhole (wholeOf s (h .place) (h .flags) (contextAt t i .carried)) t i (h .flags .low) s output
+
+module _ (old : OldForm) where
+  -- the context is live: the fields are read by type. h: the flag byte
+  abbrev pub receiveUdp : Table → (i : ℕ) → Head → (s output : List ℕ) → Result
+  receiveUdp t i h s output =
+      cond (h .flags .a)
+      (receiveParts (cuOf s (h .place) (h .flags) (contextAt t i .carried)) t i (h .flags .low) s output)
+      (old t i h s output)
+
+  abbrev pub receiveRtp : Table → (i : ℕ) → Head → (s output : List ℕ) → Result
+  receiveRtp t i h s output = receiveParts (crOf s (h .place) (h .flags) (contextAt t i .carried)) t i (h .flags .low) s output
+
+  -- rule 3.1: 8 for a context that is not live, which it leaves broken
+  abbrev pub receiveOn : Status → (kind : ℕ) → Table → (i : ℕ) → Head → (s output : List ℕ) → Result
+  receiveOn Empty kind t i h s output = refused (withContext t i (broke (contextAt t i))) 8 output
+  receiveOn Broken kind t i h s output = refused (withContext t i (broke (contextAt t i))) 8 output
+  receiveOn Live kind t i h s output = cond (eqb kind 2) (receiveUdp t i h s output) (receiveRtp t i h s output)
+
+  -- rule 3.3: 6, then 4 where there is no flag byte
+  unfoldable pub receiveCompressed : (kind : ℕ) → Table → (s output : List ℕ) → Result
+  receiveCompressed kind t s output =
+      cond (ltb (contextOf s) (t .settings .contexts))
+      (cond (isGood (headOf s .place .outcome))
+      (receiveOn (contextAt t (contextOf s) .status) kind t (contextOf s) (headOf s) s output)
+      (refused t 4 output))
+      (refused t 6 output)
+
+  ---- By type
+
+  unfoldable pub receiveKind : (kind : ℕ) → Table → (s output : List ℕ) → Result
+  receiveKind kind t s output =
+      cond (eqb kind 0) (receivePlain t s output)
+      (cond (eqb kind 1) (receiveFull t s output) (receiveCompressed kind t s output))
+
+  -- rule 1.4
+  abbrev pub lengthAllowed : List ℕ → Bool
+  lengthAllowed s = leb 1 (length s) && leb (length s) 1500
+
+  -- rule 3.3: 1, 3, 2, then by type
+  unfoldable pub receiveBy : Table → (kind : ℕ) → (s output : List ℕ) → Result
+  receiveBy t kind s output =
+      cond (soundOf t)
+      (cond (leb kind 3) (cond (lengthAllowed s) (receiveKind kind t s output) (refused t 2 output)) (refused t 3 output))
+      (refused t 1 output)
+
+-- the decompressor's own receive
+abbrev pub receiveOf : Table → (kind : ℕ) → (s output : List ℕ) → Result
+receiveOf t kind s output = receiveBy oldForm t kind s output

@@ -1,0 +1,301 @@
+-- Iarwennol. What an arrival leaves (rules 3.1, 3.5, 10.3): at most the context that the link packet names is changed, and a sound
+-- table stays sound; with too little output everything stays. Assume nothing.
+-- Used by the theorem on lists of calls (crtp).
+use Prim.Native.Nat.{ℕ, _+_, _≤_, _<_}
+use mathlib.Core.Path.{_≡_, refl, sym, ap, subst, _∙_}
+use mathlib.Core.Bool.{Bool, true, false, cond}
+use mathlib.Core.List.{List}
+use native.Mathlib.Omega.{arith}
+use borrow.Author.Tests.{ltb-true, lt-ltb}
+use lib.Dec.{eqb, leb, ltb}
+use lib.ListN.{length, drop, length-set}
+use lib.Seq.{getD-set-other}
+use Rattle.codes.specs.Bytes.{AllBytes}
+use Rattle.codes.specs.Reading.{byteAt}
+use Rattle.packet.specs.declared.parts.Parts.{Parts}
+use Rattle.fields.specs.declared.place.Place.{Place}
+use Rattle.fields.specs.declared.place.Outcome as fields
+use Rattle.fields.specs.declared.place.Outcome.the-variants as reading
+use Rattle.fields.specs.Place as place
+use Rattle.headers.specs.Header.{headerSize}
+use Rattle.links.specs.declared.head.Head.{Head}
+use Rattle.links.specs.declared.head.ReadParts.{ReadParts}
+use Rattle.links.specs.declared.whole.ReadWhole.{ReadWhole}
+use Rattle.refresh.specs.declared.judgement.Judgement.{Judgement}
+use Rattle.refresh.specs.declared.judgement.Judgement.the-variants.{Good, Cut, Forbidden, NoSuchContext}
+use Rattle.links.specs.Head.{contextOf, headOf}
+use Rattle.links.specs.Cu.{cuOf}
+use Rattle.links.specs.Cr.{crOf}
+use Rattle.links.specs.Whole.{wholeOf}
+use Rattle.refresh.specs.Fh.{fhJudged, fhOf}
+use Rattle.refresh.specs.FhLaws.{fhOf-context, fhOf-generation, fhOf-link, fhOf-range}
+use Rattle.links.specs.Range as links
+use Rattle.context.specs.Refusal as refusal
+use Rattle.context.specs.declared.refusal.Refusal.{Refusal}
+use Rattle.context.specs.declared.refusal.Refusal.the-variants as refusals
+use Rattle.context.specs.Sound.{soundDecompressor}
+use Rattle.context.specs.Decompressor.{filled, broke, applied, appliedWhole, rebuilt}
+use Rattle.context.proofs.DecompressorSound.{sound-filled, sound-broke, sound-applied, sound-appliedWhole}
+use Rattle.context.specs.declared.decompressor.Status.{Status}
+use Rattle.context.specs.declared.decompressor.Status.the-variants.{Empty, Live, Broken}
+use Rattle.context.specs.declared.decompressor.DecompressorContext.{DecompressorContext}
+use Rattle.context.specs.declared.decompressor.Outcome.{Outcome}
+use Rattle.context.specs.declared.decompressor.Outcome.the-variants.{Accepted, Refused}
+use Rattle.context.specs.declared.decompressor.Applied.{Applied}
+use Rattle.decompressor.specs.declared.table.Table.{Table}
+use Rattle.decompressor.specs.Answer.{Result, accepted, refused, delivered}
+use Rattle.decompressor.specs.Table.{noContext, soundOf, contextAt, withContext}
+use Rattle.decompressor.specs.TableLaws.{Sound, soundOf-true, sound-contextAt, sound-withContext}
+use Rattle.decompressor.specs.RangeLaws.{header-fits, parts-sound, whole-sound, link-sound}
+use Rattle.decompressor.specs.Receive.{packetOf, receivePlain, fullTable, receiveFullBy, receiveFull, rebuildTo, settleBy, settle, settleRead, receiveParts, receiveWhole, OldForm, oldForm, receiveUdp, receiveRtp, receiveOn, receiveCompressed, receiveKind, lengthAllowed, receiveBy, receiveOf}
+
+-- the context number that a link packet carries; a plain one carries none
+abbrev pub named : (kind : ℕ) → List ℕ → ℕ
+named kind s = cond (eqb kind 1) (byteAt s 3) (byteAt s 0)
+
+---- What is left of a table
+
+-- the table itself, or with another sound context at place i
+pub data Leaves (t : Table) (i : ℕ) : Table → Type 0 where
+  same : Leaves t i t
+  one : (c : DecompressorContext) → i < t .settings .contexts → soundDecompressor c ≡ true → Leaves t i (withContext t i c)
+
+module _ {t : Table} {i : ℕ} where
+  pub leaves-sound : {u : Table} → Leaves t i u → Sound t → Sound u
+  leaves-sound same s = s
+  leaves-sound (one c h e) s = sound-withContext t i c s h e
+
+  pub leaves-settings : {u : Table} → Leaves t i u → u .settings ≡ t .settings
+  leaves-settings same = refl
+  leaves-settings (one c h e) = refl
+
+  pub leaves-length : {u : Table} → Leaves t i u → length (u .contexts) ≡ length (t .contexts)
+  leaves-length same = refl
+  leaves-length (one c h e) = length-set (t .contexts) i c
+
+  pub leaves-other : {u : Table} → Leaves t i u → (j : ℕ) → (j ≡ i → ⊥) → contextAt u j ≡ contextAt t j
+  leaves-other same j n = refl
+  leaves-other (one c h e) j n = getD-set-other (t .contexts) i j c noContext n
+
+---- The two ways that a call goes, as a function of its output
+
+-- refused whatever the output; or a result that is delivered where the output has room for it
+pub data Way (t : Table) (i : ℕ) (f : List ℕ → Result) : Type 0 where
+  refuses : (after : Table) (n : ℕ) → 1 ≤ n → Leaves t i after → ((output : List ℕ) → f output ≡ refused after n output) → Way t i f
+  gives : (after : Table) (bytes : List ℕ) → Leaves t i after → ((output : List ℕ) → f output ≡ delivered t after bytes output) → Way t i f
+
+-- what is delivered to one output is refused where another is too short for it
+delivered-room : (b : Bool) (t after : Table) (bytes room output : List ℕ)
+    → cond b (refused t 11 room) (accepted after bytes room) .number ≡ 0
+    → length output < cond b (refused t 11 room) (accepted after bytes room) .length
+    → delivered t after bytes output ≡ refused t 11 output
+delivered-room true t after bytes room output z h = absurd (omega arith)
+delivered-room false t after bytes room output z h = rw (lt-ltb (length output) (length bytes) h)
+
+module _ {t : Table} {i : ℕ} where
+  way-if : (b : Bool) (f g : List ℕ → Result) → (b ≡ true → Way t i f) → Way t i g → Way t i (λ output. cond b (f output) (g output))
+  way-if true f g w v = w refl
+  way-if false f g w v = v
+
+  delivered-leaves : (b : Bool) (after : Table) (bytes output : List ℕ) → Leaves t i after
+      → Leaves t i (cond b (refused t 11 output) (accepted after bytes output) .table)
+  delivered-leaves true after bytes output l = same
+  delivered-leaves false after bytes output l = l
+
+  pub way-leaves : (f : List ℕ → Result) → Way t i f → (output : List ℕ) → Leaves t i (f output .table)
+  way-leaves f (refuses after n h l e) output = subst (λ (r : Result). Leaves t i (r .table)) (sym (e output)) l
+  way-leaves f (gives after bytes l e) output =
+      subst (λ (r : Result). Leaves t i (r .table)) (sym (e output)) (delivered-leaves (ltb (length output) (length bytes)) after bytes output l)
+
+  pub way-room : (f : List ℕ → Result) → Way t i f → (room output : List ℕ)
+      → f room .number ≡ 0 → length output < f room .length → f output ≡ refused t 11 output
+  way-room f (refuses after n h l e) room output z r =
+      let m : f room .number ≡ n = ap (λ (x : Result). x .number) (e room) in
+      absurd (omega arith)
+  way-room f (gives after bytes l e) room output z r =
+      e output
+      ∙ delivered-room (ltb (length room) (length bytes)) t after bytes room output
+      (sym (ap (λ (x : Result). x .number) (e room)) ∙ z)
+      (subst (λ (x : Result). length output < x .length) (e room) r)
+
+---- FULL_HEADER
+
+module _ (t : Table) (s : List ℕ) (a : AllBytes s) where
+  full-leaves : fhJudged (t .settings .contexts) s ≡ Good → Leaves t (fhOf s .context) (fullTable t (fhOf s))
+  full-leaves e =
+      one (filled (fhOf s .header) (record { sequence = fhOf s .link; generation = fhOf s .generation }))
+      (fhOf-context s (t .settings .contexts) e)
+      (sound-filled (fhOf s .header) (record { sequence = fhOf s .link; generation = fhOf s .generation })
+      (header-fits (fhOf s .header) (fhOf-range s a))
+      (link-sound (fhOf s .link) (fhOf s .generation) (fhOf-link s) (fhOf-generation s)))
+
+  full-way : (j : Judgement) → fhJudged (t .settings .contexts) s ≡ j → Way t (fhOf s .context) (λ output. receiveFullBy j t (fhOf s) s output)
+  full-way Good e = gives (fullTable t (fhOf s)) (packetOf (fhOf s .header) (drop (fhOf s .start) s)) (full-leaves e) (λ output. refl)
+  full-way Cut e = refuses t 4 (omega arith) same (λ output. refl)
+  full-way Forbidden e = refuses t 5 (omega arith) same (λ output. refl)
+  full-way NoSuchContext e = refuses t 6 (omega arith) same (λ output. refl)
+
+  receiveFull-way : Way t (byteAt s 3) (λ output. receiveFull t s output)
+  unfolding receiveFull fhOf
+  receiveFull-way = full-way (fhJudged (t .settings .contexts) s) refl
+
+---- COMPRESSED_UDP and COMPRESSED_RTP
+
+refusal-number : (r : Refusal) → 1 ≤ refusal.numberOf r
+refusal-number refusals.Unsound = omega arith
+refusal-number refusals.BadLength = omega arith
+refusal-number refusals.UnknownType = omega arith
+refusal-number refusals.Cut = omega arith
+refusal-number refusals.Forbidden = omega arith
+refusal-number refusals.NoSuchContext = omega arith
+refusal-number refusals.UnusedCode = omega arith
+refusal-number refusals.NotLive = omega arith
+refusal-number refusals.OutOfStep = omega arith
+refusal-number refusals.TooLong = omega arith
+refusal-number refusals.NoRoom = omega arith
+
+module _ (t : Table) (i : ℕ) (sound : Sound t) (among : i < t .settings .contexts) where
+  rebuildTo-way : (c : DecompressorContext) (sent : ℕ) (rest : List ℕ) → soundDecompressor c ≡ true → Way t i (λ output. rebuildTo t i c sent rest output)
+  rebuildTo-way c sent rest e =
+      way-if (ltb 1500 (headerSize (rebuilt c sent) + length rest))
+      (λ output. refused t 10 output)
+      (λ output. delivered t (withContext t i c) (packetOf (rebuilt c sent) rest) output)
+      (λ long. refuses t 10 (omega arith) same (λ output. refl))
+      (gives (withContext t i c) (packetOf (rebuilt c sent) rest) (one c among e) (λ output. refl))
+
+  settleBy-way : (o : Outcome) (c : DecompressorContext) (sent : ℕ) (rest : List ℕ) → soundDecompressor c ≡ true
+      → Way t i (λ output. settleBy o t i c sent rest output)
+  settleBy-way Accepted c sent rest e = rebuildTo-way c sent rest e
+  settleBy-way (Refused r) c sent rest e = refuses (withContext t i c) (refusal.numberOf r) (refusal-number r) (one c among e) (λ output. refl)
+
+  -- o: what became of the reading
+  settleRead-way : (o : fields.Outcome) (at : ℕ) (b : Applied) (sent : ℕ) (s : List ℕ) → soundDecompressor (b .context) ≡ true
+      → Way t i (λ output. settleRead (place.stopped at o) b t i sent s output)
+  settleRead-way reading.Good at b sent s e = settleBy-way (b .outcome) (b .context) sent (drop at s) e
+  settleRead-way reading.Cut at b sent s e = refuses t 4 (omega arith) same (λ output. refl)
+  settleRead-way reading.Forbidden at b sent s e = refuses t 5 (omega arith) same (λ output. refl)
+  settleRead-way reading.Unused at b sent s e = refuses t 7 (omega arith) same (λ output. refl)
+
+  receiveParts-way : (r : ReadParts) (q : ℕ) (s : List ℕ) → q < 16 → links.PartsSound (r .parts) → Way t i (λ output. receiveParts r t i q s output)
+  receiveParts-way r q s small p =
+      settleRead-way (r .place .outcome) (r .place .cursor .at) (applied (t .settings .repeats) q (contextAt t i) (r .parts)) (r .parts .checksum) s
+      (sound-applied (t .settings .repeats) q (contextAt t i) (r .parts) (omega arith) (parts-sound (r .parts) p) (sound-contextAt t i sound))
+
+  receiveWhole-way : (r : ReadWhole) (q : ℕ) (s : List ℕ) → q < 16 → links.PartsSound (r .parts) → links.HeaderSound (r .header)
+      → Way t i (λ output. receiveWhole r t i q s output)
+  receiveWhole-way r q s small p w =
+      settleRead-way (r .place .outcome) (r .place .cursor .at) (appliedWhole (t .settings .repeats) q (contextAt t i) (r .parts) (r .header)) (r .parts .checksum) s
+      (sound-appliedWhole (t .settings .repeats) q (contextAt t i) (r .parts) (r .header) (omega arith)
+      (parts-sound (r .parts) p) (whole-sound (r .header) w) (sound-contextAt t i sound))
+
+  oldForm-way : (h : Head) (s : List ℕ) → h .flags .low < 16 → Way t i (λ output. oldForm t i h s output)
+  unfolding oldForm
+  oldForm-way h s small =
+      receiveWhole-way (wholeOf s (h .place) (h .flags) (contextAt t i .carried)) (h .flags .low) s small
+      (links.wholeOf-sound s (h .place) (h .flags) (contextAt t i .carried)) (links.wholeOf-header s (h .place) (h .flags) (contextAt t i .carried))
+
+-- how a CU without F is taken may be replaced by anything that goes one of the two ways
+module _ (old : OldForm)
+    (old-way : (t : Table) (i : ℕ) → Sound t → i < t .settings .contexts → (h : Head) (s : List ℕ) → h .flags .low < 16 → Way t i (λ output. old t i h s output))
+    (t : Table) (sound : Sound t) where
+  module _ (i : ℕ) (among : i < t .settings .contexts) (h : Head) (s : List ℕ) (small : h .flags .low < 16) where
+    receiveUdp-way : Way t i (λ output. receiveUdp old t i h s output)
+    receiveUdp-way =
+        way-if (h .flags .a)
+        (λ output. receiveParts (cuOf s (h .place) (h .flags) (contextAt t i .carried)) t i (h .flags .low) s output)
+        (λ output. old t i h s output)
+        (λ e. receiveParts-way t i sound among (cuOf s (h .place) (h .flags) (contextAt t i .carried)) (h .flags .low) s small
+        (links.cuOf-sound s (h .place) (h .flags) (contextAt t i .carried)))
+        (old-way t i sound among h s small)
+
+    receiveRtp-way : Way t i (λ output. receiveRtp old t i h s output)
+    receiveRtp-way =
+        receiveParts-way t i sound among (crOf s (h .place) (h .flags) (contextAt t i .carried)) (h .flags .low) s small
+        (links.crOf-sound s (h .place) (h .flags) (contextAt t i .carried))
+
+    broken-way : Way t i (λ output. refused (withContext t i (broke (contextAt t i))) 8 output)
+    broken-way =
+        refuses (withContext t i (broke (contextAt t i))) 8 (omega arith)
+        (one (broke (contextAt t i)) among (sound-broke (contextAt t i) (sound-contextAt t i sound))) (λ output. refl)
+
+    receiveOn-way : (c : Status) (kind : ℕ) → Way t i (λ output. receiveOn old c kind t i h s output)
+    receiveOn-way Empty kind = broken-way
+    receiveOn-way Broken kind = broken-way
+    receiveOn-way Live kind =
+        way-if (eqb kind 2) (λ output. receiveUdp old t i h s output) (λ output. receiveRtp old t i h s output) (λ e. receiveUdp-way) receiveRtp-way
+
+  module _ (s : List ℕ) where
+    headOf-link : headOf s .flags .low < 16
+    unfolding headOf
+    headOf-link = omega arith
+
+    receiveCompressed-way : (kind : ℕ) → Way t (contextOf s) (λ output. receiveCompressed old kind t s output)
+    unfolding receiveCompressed
+    receiveCompressed-way kind =
+        way-if (ltb (contextOf s) (t .settings .contexts))
+        (λ output. cond (place.isGood (headOf s .place .outcome)) (receiveOn old (contextAt t (contextOf s) .status) kind t (contextOf s) (headOf s) s output) (refused t 4 output))
+        (λ output. refused t 6 output)
+        (λ e. way-if (place.isGood (headOf s .place .outcome))
+        (λ output. receiveOn old (contextAt t (contextOf s) .status) kind t (contextOf s) (headOf s) s output)
+        (λ output. refused t 4 output)
+        (λ g. receiveOn-way (contextOf s) (ltb-true (contextOf s) (t .settings .contexts) e) (headOf s) s headOf-link (contextAt t (contextOf s) .status) kind)
+        (refuses t 4 (omega arith) same (λ output. refl)))
+        (refuses t 6 (omega arith) same (λ output. refl))
+
+    ---- By type
+
+    module _ (a : AllBytes s) where
+      fullOr-way : (b : Bool) (kind : ℕ) → Way t (cond b (byteAt s 3) (byteAt s 0)) (λ output. cond b (receiveFull t s output) (receiveCompressed old kind t s output))
+      fullOr-way true kind = receiveFull-way t s a
+      fullOr-way false kind = receiveCompressed-way kind
+
+      receiveKind-way : (kind : ℕ) → Way t (named kind s) (λ output. receiveKind old kind t s output)
+      unfolding receiveKind
+      receiveKind-way kind =
+          way-if (eqb kind 0)
+          (λ output. receivePlain t s output)
+          (λ output. cond (eqb kind 1) (receiveFull t s output) (receiveCompressed old kind t s output))
+          (λ e. gives t s same (λ output. refl))
+          (fullOr-way (eqb kind 1) kind)
+
+      pub receiveBy-way : (kind : ℕ) → Way t (named kind s) (λ output. receiveBy old t kind s output)
+      unfolding receiveBy
+      receiveBy-way kind =
+          way-if (soundOf t)
+          (λ output. cond (leb kind 3) (cond (lengthAllowed old s) (receiveKind old kind t s output) (refused t 2 output)) (refused t 3 output))
+          (λ output. refused t 1 output)
+          (λ e. way-if (leb kind 3)
+          (λ output. cond (lengthAllowed old s) (receiveKind old kind t s output) (refused t 2 output))
+          (λ output. refused t 3 output)
+          (λ f. way-if (lengthAllowed old s) (λ output. receiveKind old kind t s output) (λ output. refused t 2 output)
+          (λ g. receiveKind-way kind)
+          (refuses t 2 (omega arith) same (λ output. refl)))
+          (refuses t 3 (omega arith) same (λ output. refl)))
+          (refuses t 1 (omega arith) same (λ output. refl))
+
+---- receiveOf
+
+module _ (t : Table) (kind : ℕ) (s : List ℕ) (sound : Sound t) (a : AllBytes s) where
+  pub receive-way : Way t (named kind s) (λ output. receiveOf t kind s output)
+  receive-way = receiveBy-way oldForm oldForm-way t sound s a kind
+
+  module _ (output : List ℕ) where
+    pub receive-leaves : Leaves t (named kind s) (receiveOf t kind s output .table)
+    receive-leaves = way-leaves (λ o. receiveOf t kind s o) receive-way output
+
+    pub sound-receive : Sound (receiveOf t kind s output .table)
+    sound-receive = leaves-sound receive-leaves sound
+
+    pub settings-receive : receiveOf t kind s output .table .settings ≡ t .settings
+    settings-receive = leaves-settings receive-leaves
+
+    pub length-receive : length (receiveOf t kind s output .table .contexts) ≡ length (t .contexts)
+    length-receive = leaves-length receive-leaves
+
+    pub contextAt-receive : (j : ℕ) → (j ≡ named kind s → ⊥) → contextAt (receiveOf t kind s output .table) j ≡ contextAt t j
+    contextAt-receive j n = leaves-other receive-leaves j n
+
+    -- what would be accepted with more output is refused 11, and leaves the table
+    pub receive-noRoom : (room : List ℕ) → receiveOf t kind s room .number ≡ 0 → length output < receiveOf t kind s room .length
+        → receiveOf t kind s output ≡ refused t 11 output
+    receive-noRoom room z r = way-room (λ o. receiveOf t kind s o) receive-way room output z r

@@ -1,0 +1,39 @@
+-- Iarwennol. The context-state report (rules 6.6, 9.1).
+-- Used by the contract of report.
+use Prim.Native.Nat.{ℕ, suc}
+use mathlib.Core.Bool.{Bool, true, false, cond}
+use mathlib.Core.List.{List, [], _∷_}
+use Rattle.refresh.specs.Cs.{State, csBytes}
+use Rattle.context.specs.declared.decompressor.Status.{Status}
+use Rattle.context.specs.declared.decompressor.Status.the-variants.{Empty, Live, Broken}
+use Rattle.context.specs.declared.decompressor.DecompressorContext.{DecompressorContext}
+use Rattle.decompressor.specs.declared.table.Table.{Table}
+use Rattle.decompressor.specs.Answer.{Result, refused, delivered}
+use Rattle.decompressor.specs.Table.{soundOf}
+
+abbrev pub brokenBy : Status → Bool
+brokenBy Empty = false
+brokenBy Live = false
+brokenBy Broken = true
+
+abbrev pub isBroken : DecompressorContext → Bool
+isBroken c = brokenBy (c .status)
+
+-- what is said of the broken contexts, the lowest first; i: the first one's number. A context that was never filled holds 0 for
+-- link sequence and generation (rule 2.4)
+abbrev pub statesFrom : ℕ → List DecompressorContext → List State
+statesFrom i [] = []
+statesFrom i (c ∷ cs) =
+    cond (isBroken c) (record { context = i; link = c .link .sequence; generation = c .link .generation } ∷ statesFrom (suc i) cs) (statesFrom (suc i) cs)
+
+-- with none broken there is nothing to report
+abbrev pub reportOn : List State → List ℕ
+reportOn [] = []
+reportOn (r ∷ rs) = csBytes (r ∷ rs)
+
+abbrev pub reportBytes : Table → List ℕ
+reportBytes t = reportOn (statesFrom 0 (t .contexts))
+
+-- rule 9.1: 1, 11
+unfoldable pub reportOf : Table → (output : List ℕ) → Result
+reportOf t output = cond (soundOf t) (delivered t t (reportBytes t) output) (refused t 1 output)

@@ -1,0 +1,114 @@
+-- Iarwennol. Laws of the decompressor's table: what it takes to stay sound, and what an opening gives. Assume nothing.
+-- Used by the laws of an arrival (ReceiveSound), and by the theorem on lists of calls (crtp).
+use Prim.Native.Nat.{ℕ, zero, suc, _<_}
+use mathlib.Core.Path.{_≡_, refl, sym, subst}
+use mathlib.Core.Bool.{Bool, true, false, cond, _&&_, and-eq-true-iff}
+use mathlib.Core.List.{List, [], _∷_}
+use native.Mathlib.Omega.{arith}
+use lib.ListN.{length, getD, set, drop, replicate}
+use lib.Seq.{drop-set-lt}
+use Rattle.settings.specs.Settings as settings
+use Rattle.settings.specs.declared.Settings.{Settings}
+use Rattle.settings.specs.declared.Opened.the-variants as opened
+use Rattle.context.specs.All.{all}
+use Rattle.context.specs.Sound.{soundDecompressor, soundDecompressorBy, unfilledSound, zeroList, emptyDecompressor}
+use Rattle.context.proofs.DecompressorSound.{sound-none}
+use Rattle.context.specs.declared.decompressor.DecompressorContext.{DecompressorContext}
+use Rattle.decompressor.specs.declared.table.Table.{Table}
+use Rattle.decompressor.specs.Table.{noContext, contextAt, withContext, isEmpty, soundOf, emptyTable, openOf, openBy}
+
+---- all
+
+module _ {A : Type 0} (f : A → Bool) where
+  -- an index past the end gives d
+  pub all-getD : (l : List A) (i : ℕ) (d : A) → f d ≡ true → all f l ≡ true → f (getD l i d) ≡ true
+  all-getD [] i d h e = h
+  all-getD (x ∷ xs) zero d h e = and-eq-true-iff (f x) (all f xs) .0 e .0
+  all-getD (x ∷ xs) (suc i) d h e = all-getD xs i d h (and-eq-true-iff (f x) (all f xs) .0 e .1)
+
+  pub all-set : (l : List A) (i : ℕ) (y : A) → f y ≡ true → all f l ≡ true → all f (set l i y) ≡ true
+  all-set [] i y h e = refl
+  all-set (x ∷ xs) zero y h e = rw h (and-eq-true-iff (f x) (all f xs) .0 e .1)
+  all-set (x ∷ xs) (suc i) y h e =
+      let p = and-eq-true-iff (f x) (all f xs) .0 e in
+      rw (p .0) (all-set xs i y h (p .1))
+
+  pub all-replicate : (n : ℕ) (x : A) → f x ≡ true → all f (replicate n x) ≡ true
+  all-replicate zero x h = refl
+  all-replicate (suc n) x h = rw h (all-replicate n x h)
+
+  pub all-dropped : (n : ℕ) (l : List A) → all f l ≡ true → all f (drop n l) ≡ true
+  all-dropped zero l e = e
+  all-dropped (suc n) [] e = refl
+  all-dropped (suc n) (x ∷ xs) e = all-dropped n xs (and-eq-true-iff (f x) (all f xs) .0 e .1)
+
+---- soundOf
+
+-- what a sound table is made of
+pub record Sound (t : Table) : Type 0 where
+  pub settings : settings.sound (t .settings) ≡ true
+  pub contexts : all soundDecompressor (t .contexts) ≡ true
+  pub rest : all isEmpty (drop (t .settings .contexts) (t .contexts)) ≡ true
+
+module _ (t : Table) where
+  abbrev firstTwo : Bool
+  firstTwo = settings.sound (t .settings) && all soundDecompressor (t .contexts)
+
+  pub soundOf-true : soundOf t ≡ true → Sound t
+  unfolding soundOf
+  soundOf-true e =
+      let p = and-eq-true-iff firstTwo (all isEmpty (drop (t .settings .contexts) (t .contexts))) .0 e in
+      let q = and-eq-true-iff (settings.sound (t .settings)) (all soundDecompressor (t .contexts)) .0 (p .0) in
+      record { settings = q .0; contexts = q .1; rest = p .1 }
+
+  pub soundOf-made : Sound t → soundOf t ≡ true
+  unfolding soundOf
+  soundOf-made s = rw (s .settings, s .contexts, s .rest)
+
+-- every place of a sound table holds a sound context
+sound-noContext : soundDecompressor noContext ≡ true
+unfolding soundDecompressor soundDecompressorBy unfilledSound zeroList
+sound-noContext = refl
+
+pub sound-contextAt : (t : Table) (i : ℕ) → Sound t → soundDecompressor (contextAt t i) ≡ true
+sound-contextAt t i s = all-getD soundDecompressor (t .contexts) i noContext sound-noContext (s .contexts)
+
+---- withContext
+
+-- a sound table stays sound when a context that the settings give is replaced by a sound one
+pub sound-withContext : (t : Table) (i : ℕ) (c : DecompressorContext) → Sound t → i < t .settings .contexts
+    → soundDecompressor c ≡ true → Sound (withContext t i c)
+sound-withContext t i c s h e = record {
+  settings = s .settings;
+  contexts = all-set soundDecompressor (t .contexts) i c e (s .contexts);
+  rest = rw (drop-set-lt (t .settings .contexts) (t .contexts) i c h) (s .rest);
+}
+
+---- emptyTable, openOf
+
+pub sound-emptyTable : (s : Settings) → settings.sound s ≡ true → Sound (emptyTable s)
+unfolding emptyDecompressor
+sound-emptyTable s e = record {
+  settings = e;
+  contexts = all-replicate soundDecompressor 64 emptyDecompressor sound-none;
+  rest = all-dropped isEmpty (s .contexts) (replicate 64 emptyDecompressor) (all-replicate isEmpty 64 emptyDecompressor refl);
+}
+
+-- an opening that is accepted had settings in range, and leaves a table with nothing in it
+module _ (t : Table) (n k : ℕ) where
+  abbrev chosen : Settings
+  chosen = record { repeats = n; contexts = k }
+
+  openBy-accepted : (b : Bool) → openBy t (cond b (opened.Ready chosen) opened.Refused) .number ≡ 0
+      → (b ≡ true) × (openBy t (cond b (opened.Ready chosen) opened.Refused) .table ≡ emptyTable chosen)
+  openBy-accepted true e = (refl, refl)
+  openBy-accepted false e = absurd (omega arith)
+
+  pub openOf-accepted : openOf t n k .number ≡ 0 → (settings.inRange n k ≡ true) × (openOf t n k .table ≡ emptyTable chosen)
+  unfolding openOf settings.openOf
+  openOf-accepted e = openBy-accepted (settings.inRange n k) e
+
+  pub sound-openOf : openOf t n k .number ≡ 0 → Sound (openOf t n k .table)
+  sound-openOf e =
+      let p = openOf-accepted e in
+      subst Sound (sym (p .1)) (sound-emptyTable chosen (p .0))
