@@ -1,2 +1,4 @@
 -- Iarwennol. Laws that only the proofs of this crate cite.
 mod Arrays
+mod Sending
+mod Ways

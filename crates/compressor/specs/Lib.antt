@@ -1,8 +1,15 @@
 pub mod Answer
+pub mod AnswerLaws
 pub mod Table
 pub mod TableLaws
 pub mod Lookup
 pub mod LookupLaws
 pub mod Send
 pub mod SendLaws
+pub mod Size
+pub mod SizeLaws
+pub mod StepLaws
+pub mod ReadyLaws
+pub mod SoundLaws
 pub mod Request
+pub mod RequestLaws

@@ -6,4 +6,6 @@
 // Read `specs/Send.antt` first: `sendOf` says all that a send does.
 pub mod answer;
 pub mod lookup;
+pub mod request;
+pub mod send;
 pub mod table;

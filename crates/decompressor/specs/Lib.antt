@@ -4,5 +4,9 @@ pub mod TableLaws
 pub mod Receive
 pub mod Report
 pub mod ReceiveLaws
+pub mod PacketLaws
 pub mod RangeLaws
+pub mod NarrowLaws
 pub mod ReceiveSound
+pub mod Taken
+pub mod TakenLaws

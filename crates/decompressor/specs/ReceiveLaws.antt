@@ -2,17 +2,17 @@
 -- Used by the theorem on lists of calls (crtp).
 use Prim.Native.Nat.{ℕ, _+_, _≤_, _<_}
 use mathlib.Core.Path.{_≡_, refl, sym, ap, _∙_}
-use mathlib.Core.Bool.{Bool, true, false, cond}
+use mathlib.Core.Bool.{Bool, true, false, cond, and-eq-true-iff}
 use mathlib.Core.List.{List, [], _∷_, _++_}
 use native.Mathlib.Omega.{arith}
-use borrow.Author.Tests.{le-leb, lt-ltb}
+use borrow.Author.Tests.{leb-true, le-leb, le-ltb, lt-ltb}
 use lib.Dec.{eqb, leb, ltb}
 use lib.ListN.{length, drop}
 use lib.Seq.{drop-append-seam}
 use Rattle.packet.specs.declared.header.Header.{Header}
 use Rattle.packet.specs.declared.parts.Parts.{Parts}
 use Rattle.bytes.specs.declared.flags.Flags.{Flags}
-use Rattle.fields.specs.Place.{good}
+use Rattle.fields.specs.Place.{isGood, good}
 use Rattle.links.specs.declared.head.Head.{Head}
 use Rattle.links.specs.declared.head.ReadParts.{ReadParts}
 use Rattle.links.specs.Fits.{CuFits, CrFits}
@@ -30,9 +30,15 @@ use Rattle.context.specs.declared.decompressor.DecompressorContext.{Decompresso
 use Rattle.context.specs.declared.decompressor.Outcome.the-variants.{Accepted}
 use Rattle.context.specs.declared.decompressor.Applied.{Applied}
 use Rattle.decompressor.specs.declared.table.Table.{Table}
-use Rattle.decompressor.specs.Answer.{Result, delivered}
+use Rattle.decompressor.specs.Answer.{Result, refused, delivered}
 use Rattle.decompressor.specs.Table.{soundOf, contextAt, withContext}
 use Rattle.decompressor.specs.Receive.{packetOf, receivePlain, receiveFull, rebuildTo, settle, settleBy, settleRead, receiveParts, OldForm, oldForm, receiveUdp, receiveRtp, receiveOn, receiveCompressed, receiveKind, lengthAllowed, receiveBy, receiveOf}
+
+-- a length that is allowed
+pub lengthAllowed-true : (old : OldForm) (s : List ℕ) → lengthAllowed old s ≡ true → (1 ≤ length s) × (length s ≤ 1500)
+lengthAllowed-true old s e =
+    let p = and-eq-true-iff (leb 1 (length s)) (leb (length s) 1500) .0 e in
+    (leb-true 1 (length s) (p .0), leb-true (length s) 1500 (p .1))
 
 -- a packet that is judged by its type alone: the table is sound, and the length allowed
 module _ (t : Table) (s output : List ℕ) (sound : soundOf t ≡ true) (some : 1 ≤ length s) (few : length s ≤ 1500) where
@@ -69,6 +75,23 @@ module _ (t : Table) (i g q total : ℕ) (h : Header) (rest output : List ℕ) (
   pub receive-header : soundOf t ≡ true → total ≡ length full → 1 ≤ length full → length full ≤ 1500
       → receiveOf t 1 full output ≡ delivered t (withContext t i (filled h (record { sequence = q; generation = g }))) (packetOf h rest) output
   receive-header sound e some few = receive-full t full output sound some few ∙ full-read e
+
+---- COMPRESSED_UDP and COMPRESSED_RTP: 6, then 4, then by the context
+
+module _ (old : OldForm) (kind : ℕ) (t : Table) (s output : List ℕ) where
+  pub compressed-unknown : t .settings .contexts ≤ contextOf s → receiveCompressed old kind t s output ≡ refused t 6 output
+  unfolding receiveCompressed
+  compressed-unknown h = rw (le-ltb (contextOf s) (t .settings .contexts) h)
+
+  module _ (h : contextOf s < t .settings .contexts) where
+    pub compressed-cut : isGood (headOf s .place .outcome) ≡ false → receiveCompressed old kind t s output ≡ refused t 4 output
+    unfolding receiveCompressed
+    compressed-cut e = rw (lt-ltb (contextOf s) (t .settings .contexts) h, e)
+
+    pub compressed-on : isGood (headOf s .place .outcome) ≡ true
+        → receiveCompressed old kind t s output ≡ receiveOn old (contextAt t (contextOf s) .status) kind t (contextOf s) (headOf s) s output
+    unfolding receiveCompressed
+    compressed-on e = rw (lt-ltb (contextOf s) (t .settings .contexts) h, e)
 
 ---- COMPRESSED_UDP and COMPRESSED_RTP on a live context that accepts them
 

@@ -24,6 +24,7 @@ use Rattle.links.specs.declared.whole.ReadWhole.{ReadWhole}
 use Rattle.refresh.specs.declared.judgement.Judgement.{Judgement}
 use Rattle.refresh.specs.declared.judgement.Judgement.the-variants.{Good, Cut, Forbidden, NoSuchContext}
 use Rattle.links.specs.Head.{contextOf, headOf}
+use Rattle.links.specs.HeadLaws.{headOf-low}
 use Rattle.links.specs.Cu.{cuOf}
 use Rattle.links.specs.Cr.{crOf}
 use Rattle.links.specs.Whole.{wholeOf}
@@ -225,10 +226,6 @@ module _ (old : OldForm)
         way-if (eqb kind 2) (λ output. receiveUdp old t i h s output) (λ output. receiveRtp old t i h s output) (λ e. receiveUdp-way) receiveRtp-way
 
   module _ (s : List ℕ) where
-    headOf-link : headOf s .flags .low < 16
-    unfolding headOf
-    headOf-link = omega arith
-
     receiveCompressed-way : (kind : ℕ) → Way t (contextOf s) (λ output. receiveCompressed old kind t s output)
     unfolding receiveCompressed
     receiveCompressed-way kind =
@@ -238,7 +235,7 @@ module _ (old : OldForm)
         (λ e. way-if (place.isGood (headOf s .place .outcome))
         (λ output. receiveOn old (contextAt t (contextOf s) .status) kind t (contextOf s) (headOf s) s output)
         (λ output. refused t 4 output)
-        (λ g. receiveOn-way (contextOf s) (ltb-true (contextOf s) (t .settings .contexts) e) (headOf s) s headOf-link (contextAt t (contextOf s) .status) kind)
+        (λ g. receiveOn-way (contextOf s) (ltb-true (contextOf s) (t .settings .contexts) e) (headOf s) s (headOf-low s) (contextAt t (contextOf s) .status) kind)
         (refuses t 4 (omega arith) same (λ output. refl)))
         (refuses t 6 (omega arith) same (λ output. refl))
 

@@ -1,6 +1,6 @@
 -- Iarwennol. Laws of the decompressor's table: what it takes to stay sound, and what an opening gives. Assume nothing.
 -- Used by the laws of an arrival (ReceiveSound), and by the theorem on lists of calls (crtp).
-use Prim.Native.Nat.{ℕ, zero, suc, _<_}
+use Prim.Native.Nat.{ℕ, zero, suc, _≤_, _<_}
 use mathlib.Core.Path.{_≡_, refl, sym, subst}
 use mathlib.Core.Bool.{Bool, true, false, cond, _&&_, and-eq-true-iff}
 use mathlib.Core.List.{List, [], _∷_}
@@ -8,6 +8,7 @@ use native.Mathlib.Omega.{arith}
 use lib.ListN.{length, getD, set, drop, replicate}
 use lib.Seq.{drop-set-lt}
 use Rattle.settings.specs.Settings as settings
+use Rattle.settings.specs.SettingsLaws.{range-repeats, range-most}
 use Rattle.settings.specs.declared.Settings.{Settings}
 use Rattle.settings.specs.declared.Opened.the-variants as opened
 use Rattle.context.specs.All.{all}
@@ -64,6 +65,12 @@ module _ (t : Table) where
   pub soundOf-made : Sound t → soundOf t ≡ true
   unfolding soundOf
   soundOf-made s = rw (s .settings, s .contexts, s .rest)
+
+  pub sound-repeats : Sound t → t .settings .repeats ≤ 14
+  sound-repeats s = range-repeats (t .settings .repeats) (t .settings .contexts) (s .settings)
+
+  pub sound-most : Sound t → t .settings .contexts ≤ 64
+  sound-most s = range-most (t .settings .repeats) (t .settings .contexts) (s .settings)
 
 -- every place of a sound table holds a sound context
 sound-noContext : soundDecompressor noContext ≡ true

@@ -5,4 +5,9 @@
 // context, and the rebuilt packet finds its output.
 // Read `specs/Receive.antt` first: `receiveOf` says all that an arrival does.
 pub mod answer;
+pub mod compressed;
+pub mod full;
+pub mod output;
+pub mod receive;
+pub mod settle;
 pub mod table;

@@ -1,8 +1,99 @@
+ghost use mathlib.Core.Path.{_≡_};
+ghost use Prim.Native.Nat.{_≤_};
+ghost use lib.ListN.{drop};
+ghost use mathlib.Core.List.{[]};
+ghost use Rattle.context.specs.All.{all};
+ghost use Rattle.context.specs.Sound.{soundDecompressor};
+ghost use Rattle.decompressor.specs.Table.{isEmpty, soundOf, openOf, emptyTable};
+ghost use Rattle.decompressor.specs.Answer.{said};
+use crate::answer::Answer;
+use crate::answer::Outcome;
 use context::decompressor::DecompressorContext;
+use context::decompressor::Status;
+use context::refusal::Refusal;
+use settings::Opened;
 use settings::Settings;
+use soundness::decompressor::empty_context;
+use soundness::decompressor::sound_context;
 
 // The decompressor's contexts, with what it was opened with. Places from `settings.contexts` on stay empty.
 pub struct Table {
     pub settings: Settings,
     pub contexts: [DecompressorContext; 64],
+}
+
+pub fn is_empty(c: DecompressorContext) -> bool
+    ensures { λ r. ⌜ r ≡ isEmpty c ⌝ }
+{
+    let s = c.status;
+    match s {
+        Status::Empty => true,
+        Status::Live => false,
+        Status::Broken => false,
+    }
+}
+
+fn all_sound(contexts: [DecompressorContext; 64]) -> bool
+    ensures { λ r. ⌜ r ≡ all soundDecompressor contexts ⌝ }
+{
+    let mut ok = true;
+    let mut i = 0;
+    while i < 64 {
+        let c = contexts[i];
+        ok = ok & sound_context(c);
+        i += 1;
+    }
+    ok
+}
+
+fn empty_from(k: usize, contexts: [DecompressorContext; 64]) -> bool
+    requires { ⌜ k ≤ 64 ⌝ }
+    ensures { λ r. ⌜ r ≡ all isEmpty (drop k contexts) ⌝ }
+{
+    let mut ok = true;
+    let mut i = k;
+    while i < 64 {
+        let c = contexts[i];
+        ok = ok & is_empty(c);
+        i += 1;
+    }
+    ok
+}
+
+// Whether a table is one that the calls can leave.
+pub fn sound(t: Table) -> bool
+    ensures { λ r. ⌜ r ≡ soundOf t ⌝ }
+{
+    let s = t.settings;
+    if s.is_sound() {
+        let contexts = t.contexts;
+        return all_sound(contexts) & empty_from(s.contexts as usize, contexts);
+    }
+    false
+}
+
+fn empty_table(s: Settings) -> Table
+    ensures { λ r. ⌜ r ≡ emptyTable s ⌝ }
+{
+    let c = empty_context();
+    Table {
+        settings: s,
+        contexts: [c; 64],
+    }
+}
+
+// A table with nothing in it. The settings alone are judged, never the table that was there.
+pub fn open(t: Table, n: u32, k: u32) -> Answer
+    ensures { λ r. ⌜ said r [] ≡ openOf t n k ⌝ }
+{
+    match Settings::open(n, k) {
+        Opened::Ready(s) => Answer {
+            outcome: Outcome::Accepted(0),
+            table: empty_table(s),
+        },
+        Opened::Refused => Answer {
+            outcome: Outcome::Refused(Refusal::Unsound),
+            table: t,
+        },
+    }
 }

@@ -1,0 +1,2 @@
+-- Iarwennol. Laws that only the proofs of this crate cite.
+mod Arrays

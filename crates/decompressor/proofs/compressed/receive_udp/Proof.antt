@@ -1,0 +1,54 @@
+use Rattle.decompressor.specs.TakenLaws.{takes-udp, takes-old}
+use Rattle.links.specs.Range.{cuOf-within, cuOf-sound}
+use borrow.Author.Needs.{needs}
+use Rattle.decompressor.proofs.compressed.receive_udp.Statement.{statement}
+use Rattle.decompressor.proofs.compressed.receive_udp.Tie as tie
+use Rattle.decompressor.proofs.compressed.receive_udp.Reads as reads
+use Rattle.decompressor.proofs.compressed.receive_udp.Lts as lts
+use Rattle.decompressor.proofs.compressed.receive_parts.Reads as receive-parts-reads
+use Rattle.decompressor.proofs.compressed.receive_whole.Reads as receive-whole-reads
+use Rattle.links.proofs.cu.read_cu.Reads as read-cu-reads
+
+-- src/compressed.rt:68:13
+read-cu-requires : tie.Need-read-cu-requires
+read-cu-requires c κs = search needs
+
+-- src/compressed.rt:69:9
+receive-parts-requires : tie.Need-receive-parts-requires
+receive-parts-requires c κs = let p = c .before .before .before .before .before .before .pre in
+    let a = c .before .before .before .before .before .before .args in
+    rw (c .before .read-cu .ensures) (p .few, p .link, p .sound, cuOf-sound (a .s .now) (a .h .place) (a .h .flags) (a .c .carried), cuOf-within (a .s .now) (a .h .place) (a .h .flags) (a .c .carried) (p .within), p .short)
+
+-- src/compressed.rt:69:9
+same-length : tie.Need-same-length
+same-length c = search needs
+
+-- src/compressed.rt:69:9
+returns : tie.Need-returns
+returns c = let a = c .before .before .before .before .before .before .before .before .before .args in
+    takes-udp (a .n) (a .c) _ _ (a .s .now) (a .out .now) (a .h) (c .before .before .before .before .before .if1 .taken) (rw (c .before .before .before .before .read-cu .ensures) at (c .before .before .receive-parts .ensures))
+
+-- src/compressed.rt:71:5
+receive-whole-requires : tie.Need-receive-whole-requires
+receive-whole-requires c κs = search needs
+
+-- src/compressed.rt:62:1
+same-length-2 : tie.Need-same-length-2
+same-length-2 c = search needs
+
+-- src/compressed.rt:62:1
+returns-2 : tie.Need-returns-2
+returns-2 c = let a = c .before .before .before .before .before .before .before .before .args in
+    takes-old (a .n) (a .c) _ _ (a .s .now) (a .out .now) (a .h) (c .before .before .before .before .if1 .left) (c .before .before .receive-whole .ensures)
+
+pub receive-udp-spec : {M : Type 1} → statement M
+receive-udp-spec =
+    tie.close
+    (tie.spec
+    read-cu-requires
+    receive-parts-requires
+    same-length
+    returns
+    receive-whole-requires
+    same-length-2
+    returns-2)

@@ -1,0 +1,61 @@
+use Rattle.decompressor.proofs.Arrays.{length-mapped}
+use Rattle.decompressor.specs.Table.{noContext, isEmpty}
+use Rattle.context.specs.AllLaws.{all-drop, all-end}
+use Rattle.context.specs.All.{all}
+use lib.ListN.{length, drop}
+use borrow.Author.Needs.{needs}
+use native.Mathlib.Omega.{arith}
+use mathlib.Core.Bool.{_&&_}
+use mathlib.Core.Path.{_≡_, sym, _∙_}
+use Prim.Native.Nat.{_≤_, _-_}
+use Rattle.decompressor.proofs.table.empty_from.Statement.{statement}
+use Rattle.decompressor.proofs.table.empty_from.Tie as tie
+
+abbrev Inv-loop : tie.InvT-loop
+Inv-loop k contexts ok₀ i₀ ok i = (length contexts ≡ 64) × (k ≤ i) × (all isEmpty (drop k contexts) ≡ (ok && all isEmpty (drop i contexts)))
+
+abbrev μ-loop : tie.MeasureT-loop
+μ-loop k contexts ok₀ i₀ ok i = 64 - i
+
+loop-holds : tie.Need-loop-holds Inv-loop μ-loop
+loop-holds c = search (needs, length-mapped)
+
+mul-c : tie.Need-mul-c Inv-loop μ-loop
+mul-c c = omega arith
+
+array-copy-out-c : tie.Need-array-copy-out-c Inv-loop μ-loop
+array-copy-out-c c = search needs
+
+is-empty-requires : tie.Need-is-empty-requires Inv-loop μ-loop
+is-empty-requires c κs = search needs
+
+add-i : tie.Need-add-i Inv-loop μ-loop
+add-i c = omega arith
+
+loop-less : tie.Need-loop-less Inv-loop μ-loop
+loop-less c = omega arith
+
+loop-again : tie.Need-loop-again Inv-loop μ-loop
+loop-again c = let a = c .before .before .before .before .args in
+    let l = c .before .before .before .loop in
+    (l .inv .0, omega arith, rw (c .is-empty .ensures) (l .inv .2 ∙ all-drop isEmpty (a .t2) (l .i) (l .ok) noContext (omega arith)))
+
+returns : tie.Need-returns Inv-loop μ-loop
+returns c = let a = c .before .before .args in
+    let l = c .before .loop in
+    sym (l .inv .2 ∙ all-end isEmpty (a .t2) (l .i) (l .ok) (omega arith))
+
+pub empty-from-spec : {M : Type 1} → statement M
+empty-from-spec =
+    tie.close
+    (tie.spec
+    Inv-loop
+    μ-loop
+    loop-holds
+    mul-c
+    array-copy-out-c
+    is-empty-requires
+    add-i
+    loop-less
+    loop-again
+    returns)

@@ -1,0 +1,71 @@
+ghost use mathlib.Core.Path.{_≡_};
+ghost use Prim.Native.Nat.{_≤_};
+ghost use lib.ListN.{length};
+ghost use Rattle.decompressor.specs.Answer.{said};
+ghost use Rattle.decompressor.specs.TableLaws.{Sound};
+ghost use Rattle.decompressor.specs.Receive.{receivePlain, oldForm, receiveKind, receiveOf};
+use crate::answer::Answer;
+use crate::answer::Outcome;
+use crate::compressed::receive_compressed;
+use crate::full::receive_full;
+use crate::table::Table;
+use crate::table::sound;
+use bytes::put::put_all;
+use context::refusal::Refusal;
+
+// A plain packet is given out as it came.
+fn receive_plain(t: Table, s: &[u8], out: &mut [u8]) -> Answer
+    ensures { λ r. ⌜ said r (now (out .exit)) ≡ receivePlain t (now (s .entry)) (now (out .entry)) ⌝ }
+{
+    let size = s.len();
+    if out.len() < size {
+        return Answer {
+            outcome: Outcome::Refused(Refusal::NoRoom),
+            table: t,
+        };
+    }
+    put_all(out, 0, s);
+    Answer {
+        outcome: Outcome::Accepted(size),
+        table: t,
+    }
+}
+
+fn receive_kind(kind: u32, t: Table, s: &[u8], out: &mut [u8]) -> Answer
+    requires { ⌜ Sound t × (1 ≤ length (now s)) × (length (now s) ≤ 1500) ⌝ }
+    ensures { λ r. ⌜ said r (now (out .exit)) ≡ receiveKind oldForm kind t (now (s .entry)) (now (out .entry)) ⌝ }
+{
+    if kind == 0 {
+        return receive_plain(t, s, out);
+    }
+    if kind == 1 {
+        return receive_full(t, s, out);
+    }
+    receive_compressed(kind, t, s, out)
+}
+
+// An arrival: a link packet of any type, any bytes, any table and any output.
+pub fn receive(t: Table, kind: u32, s: &[u8], out: &mut [u8]) -> Answer
+    ensures { λ r. ⌜ said r (now (out .exit)) ≡ receiveOf t kind (now (s .entry)) (now (out .entry)) ⌝ }
+{
+    if !sound(t) {
+        return Answer {
+            outcome: Outcome::Refused(Refusal::Unsound),
+            table: t,
+        };
+    }
+    if 3 < kind {
+        return Answer {
+            outcome: Outcome::Refused(Refusal::UnknownType),
+            table: t,
+        };
+    }
+    let size = s.len();
+    if !((1 <= size) & (size <= 1500)) {
+        return Answer {
+            outcome: Outcome::Refused(Refusal::BadLength),
+            table: t,
+        };
+    }
+    receive_kind(kind, t, s, out)
+}
