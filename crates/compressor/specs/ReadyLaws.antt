@@ -14,7 +14,8 @@ use Rattle.settings.specs.SettingsLaws.{range-repeats, range-most}
 use Rattle.context.specs.Sound.{soundCompressor}
 use Rattle.compressor.specs.declared.table.Table.{Table}
 use Rattle.compressor.specs.Table.{noContext, contextAt, soundOf}
-use Rattle.compressor.specs.TableLaws.{all-getD, Sound, soundOf-true}
+use Rattle.context.specs.AllLaws.{all-at}
+use Rattle.compressor.specs.TableLaws.{Sound, soundOf-true}
 use Rattle.compressor.specs.SendLaws.{On}
 use Rattle.compressor.specs.Size.{Ready}
 use Rattle.compressor.specs.StepLaws.{writable-stepOn}
@@ -29,7 +30,7 @@ module _ (t : Table) (s : Sound t) where
   sound-most = range-most (t .settings .repeats) (t .settings .contexts) (s .settings)
 
   pub sound-contextAt : length (t .contexts) ≡ 64 → (i : ℕ) → i < 64 → soundCompressor (t .settings .repeats) (contextAt t i) ≡ true
-  sound-contextAt n i h = all-getD (soundCompressor (t .settings .repeats)) (t .contexts) i noContext (omega (arith, n)) (s .contexts)
+  sound-contextAt n i h = all-at (soundCompressor (t .settings .repeats)) (t .contexts) i noContext (omega (arith, n)) (s .contexts)
 
 ---- Ready
 

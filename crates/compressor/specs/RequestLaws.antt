@@ -22,7 +22,8 @@ use Rattle.context.specs.declared.compressor.CompressorContext.{CompressorConte
 use Rattle.compressor.specs.declared.table.Table.{Table}
 use Rattle.compressor.specs.Answer.{refused}
 use Rattle.compressor.specs.Table.{noContext, contextAt, isEmpty, emptyBy, soundOf}
-use Rattle.compressor.specs.TableLaws.{Sound, all-getD}
+use Rattle.context.specs.AllLaws.{all-at}
+use Rattle.compressor.specs.TableLaws.{Sound}
 use Rattle.compressor.specs.Request.{asked, askedAll, requestTable, requestBy, requestOf}
 
 ---- all, by its elements
@@ -151,7 +152,7 @@ module _ (t after : Table) (a : Asks t after) (s : Sound t) where
   sound-each : (i : ℕ) → i < length (after .contexts) → soundCompressor (t .settings .repeats) (getD (after .contexts) i noContext) ≡ true
   sound-each i h =
       a .keeps (λ c. soundCompressor (t .settings .repeats) c ≡ true) (λ c e. sound-requested (t .settings .repeats) c e) i
-      (all-getD (soundCompressor (t .settings .repeats)) (t .contexts) i noContext (omega (arith, a .size)) (s .contexts))
+      (all-at (soundCompressor (t .settings .repeats)) (t .contexts) i noContext (omega (arith, a .size)) (s .contexts))
 
   empty-each : (i : ℕ) → i < length (drop (t .settings .contexts) (after .contexts)) → isEmpty (getD (drop (t .settings .contexts) (after .contexts)) i noContext) ≡ true
   empty-each i h =
@@ -159,7 +160,7 @@ module _ (t after : Table) (a : Asks t after) (s : Sound t) where
       let n = length-drop k (after .contexts) in
       let m = length-drop k (t .contexts) in
       let e : isEmpty (getD (t .contexts) (k + i) noContext) ≡ true =
-      rw (getD-drop k (t .contexts) i noContext) at (all-getD isEmpty (drop k (t .contexts)) i noContext (omega (arith, a .size)) (s .rest)) in
+      rw (getD-drop k (t .contexts) i noContext) at (all-at isEmpty (drop k (t .contexts)) i noContext (omega (arith, a .size)) (s .rest)) in
       rw (getD-drop k (after .contexts) i noContext)
       (a .keeps (λ c. isEmpty c ≡ true) (λ c e. requested-empty (t .settings .repeats) c ∙ e) (k + i) e)
 

@@ -12,35 +12,12 @@ use Rattle.settings.specs.SettingsLaws.{range-repeats, range-least, range-most}
 use Rattle.settings.specs.declared.Settings.{Settings}
 use Rattle.settings.specs.declared.Opened.the-variants as opened
 use Rattle.context.specs.All.{all}
+use Rattle.context.specs.AllLaws.{all-at, all-set, all-replicate, all-dropped}
 use Rattle.context.specs.Sound.{soundCompressor, emptyCompressor}
 use Rattle.context.proofs.CompressorSound.{sound-empty}
 use Rattle.context.specs.declared.compressor.CompressorContext.{CompressorContext}
 use Rattle.compressor.specs.declared.table.Table.{Table}
 use Rattle.compressor.specs.Table.{noContext, contextAt, withContext, isEmpty, soundOf, emptyTable, openOf, openBy}
-
----- all
-
-module _ {A : Type 0} (f : A → Bool) where
-  pub all-getD : (l : List A) (i : ℕ) (d : A) → i < length l → all f l ≡ true → f (getD l i d) ≡ true
-  all-getD [] i d h e = absurd (omega arith)
-  all-getD (x ∷ xs) zero d h e = and-eq-true-iff (f x) (all f xs) .0 e .0
-  all-getD (x ∷ xs) (suc i) d h e = all-getD xs i d (omega arith) (and-eq-true-iff (f x) (all f xs) .0 e .1)
-
-  pub all-set : (l : List A) (i : ℕ) (y : A) → f y ≡ true → all f l ≡ true → all f (set l i y) ≡ true
-  all-set [] i y h e = refl
-  all-set (x ∷ xs) zero y h e = rw h (and-eq-true-iff (f x) (all f xs) .0 e .1)
-  all-set (x ∷ xs) (suc i) y h e =
-      let p = and-eq-true-iff (f x) (all f xs) .0 e in
-      rw (p .0) (all-set xs i y h (p .1))
-
-  pub all-replicate : (n : ℕ) (x : A) → f x ≡ true → all f (replicate n x) ≡ true
-  all-replicate zero x h = refl
-  all-replicate (suc n) x h = rw h (all-replicate n x h)
-
-  pub all-dropped : (n : ℕ) (l : List A) → all f l ≡ true → all f (drop n l) ≡ true
-  all-dropped zero l e = e
-  all-dropped (suc n) [] e = refl
-  all-dropped (suc n) (x ∷ xs) e = all-dropped n xs (and-eq-true-iff (f x) (all f xs) .0 e .1)
 
 ---- soundOf
 

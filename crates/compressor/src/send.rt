@@ -23,11 +23,11 @@ use encode::cr::cr_size;
 use encode::cr::put_cr;
 use encode::cu::cu_size;
 use encode::cu::put_cu;
-use refresh::fh::fh_size;
-use refresh::fh::put_fh;
 use headers::form::is_compressible;
 use headers::read::read_header;
 use packet::header::Header;
+use refresh::fh::fh_size;
+use refresh::fh::put_fh;
 
 // A packet that goes out as it is.
 fn send_plain(t: Table, p: &[u8], out: &mut [u8]) -> Answer

@@ -18,6 +18,7 @@ use Rattle.settings.specs.SettingsLaws.{range-repeats, range-most}
 use Rattle.headers.specs.Header.{headerOf}
 use Rattle.headers.specs.HeaderLaws.{headerOf-range}
 use Rattle.refresh.specs.FhLaws.{FhFits}
+use Rattle.context.specs.AllLaws.{all-at}
 use Rattle.context.specs.Range as context
 use Rattle.context.specs.Sound.{soundCompressor, emptyCompressor, emptyDecompressor}
 use Rattle.context.specs.Compressor.{skips, startedUnlessDue, requestedBy, requested}
@@ -166,7 +167,7 @@ module _ (n k : ℕ) where
 
       context-sound : soundCompressor (t .settings .repeats) (compressing.contextAt t c) ≡ true
       context-sound =
-          compressing·laws.all-getD (soundCompressor (t .settings .repeats)) (t .contexts) c compressing.noContext (omega (arith, on .place .among, few-contexts, r .sizeC)) (r .soundC .contexts)
+          all-at (soundCompressor (t .settings .repeats)) (t .contexts) c compressing.noContext (omega (arith, on .place .among, few-contexts, r .sizeC)) (r .soundC .contexts)
 
       abbrev accepting : decompressor.Table
       accepting = decompressing.withContext d c (arrives-there .after)

@@ -29,6 +29,7 @@ use Rattle.links.specs.Cu.{cuBytes}
 use Rattle.links.specs.CuLaws.{contextOf-cuBytes, allBytes-cuBytes}
 use Rattle.links.specs.Cr.{crBytes}
 use Rattle.links.specs.CrLaws.{contextOf-crBytes, allBytes-crBytes}
+use Rattle.context.specs.AllLaws.{all-at}
 use Rattle.context.specs.Range as context
 use Rattle.context.specs.Relation.{Related, Arrives}
 use Rattle.context.specs.Sound.{soundCompressor, soundDecompressor}
@@ -91,7 +92,7 @@ module _ (t : compressor.Table) (p : List ℕ) (small : AllBytes p) (i : ℕ) (o
   there = omega (arith, on .place .among, few-contexts)
 
   context-sound : soundCompressor n s ≡ true
-  context-sound = sending.all-getD (soundCompressor n) (t .contexts) i compressing.noContext there (sound .contexts)
+  context-sound = all-at (soundCompressor n) (t .contexts) i compressing.noContext there (sound .contexts)
 
   even-port : eqb (h .flow .dport % 2) 0 ≡ true
   unfolding headerOf flowOf

@@ -1,2 +1,2 @@
--- Iarwennol. Laws that only the proofs of this crate cite.
-mod Arrays
+-- Iarwennol. Laws that only proofs cite: those of this crate, and of report.
+pub mod Arrays

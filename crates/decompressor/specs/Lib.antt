@@ -2,7 +2,6 @@ pub mod Answer
 pub mod Table
 pub mod TableLaws
 pub mod Receive
-pub mod Report
 pub mod ReceiveLaws
 pub mod PacketLaws
 pub mod RangeLaws

@@ -12,36 +12,12 @@ use Rattle.settings.specs.SettingsLaws.{range-repeats, range-most}
 use Rattle.settings.specs.declared.Settings.{Settings}
 use Rattle.settings.specs.declared.Opened.the-variants as opened
 use Rattle.context.specs.All.{all}
+use Rattle.context.specs.AllLaws.{all-getD, all-set, all-replicate, all-dropped}
 use Rattle.context.specs.Sound.{soundDecompressor, soundDecompressorBy, unfilledSound, zeroList, emptyDecompressor}
 use Rattle.context.proofs.DecompressorSound.{sound-none}
 use Rattle.context.specs.declared.decompressor.DecompressorContext.{DecompressorContext}
 use Rattle.decompressor.specs.declared.table.Table.{Table}
 use Rattle.decompressor.specs.Table.{noContext, contextAt, withContext, isEmpty, soundOf, emptyTable, openOf, openBy}
-
----- all
-
-module _ {A : Type 0} (f : A → Bool) where
-  -- an index past the end gives d
-  pub all-getD : (l : List A) (i : ℕ) (d : A) → f d ≡ true → all f l ≡ true → f (getD l i d) ≡ true
-  all-getD [] i d h e = h
-  all-getD (x ∷ xs) zero d h e = and-eq-true-iff (f x) (all f xs) .0 e .0
-  all-getD (x ∷ xs) (suc i) d h e = all-getD xs i d h (and-eq-true-iff (f x) (all f xs) .0 e .1)
-
-  pub all-set : (l : List A) (i : ℕ) (y : A) → f y ≡ true → all f l ≡ true → all f (set l i y) ≡ true
-  all-set [] i y h e = refl
-  all-set (x ∷ xs) zero y h e = rw h (and-eq-true-iff (f x) (all f xs) .0 e .1)
-  all-set (x ∷ xs) (suc i) y h e =
-      let p = and-eq-true-iff (f x) (all f xs) .0 e in
-      rw (p .0) (all-set xs i y h (p .1))
-
-  pub all-replicate : (n : ℕ) (x : A) → f x ≡ true → all f (replicate n x) ≡ true
-  all-replicate zero x h = refl
-  all-replicate (suc n) x h = rw h (all-replicate n x h)
-
-  pub all-dropped : (n : ℕ) (l : List A) → all f l ≡ true → all f (drop n l) ≡ true
-  all-dropped zero l e = e
-  all-dropped (suc n) [] e = refl
-  all-dropped (suc n) (x ∷ xs) e = all-dropped n xs (and-eq-true-iff (f x) (all f xs) .0 e .1)
 
 ---- soundOf
 
@@ -73,7 +49,7 @@ module _ (t : Table) where
   sound-most s = range-most (t .settings .repeats) (t .settings .contexts) (s .settings)
 
 -- every place of a sound table holds a sound context
-sound-noContext : soundDecompressor noContext ≡ true
+pub sound-noContext : soundDecompressor noContext ≡ true
 unfolding soundDecompressor soundDecompressorBy unfilledSound zeroList
 sound-noContext = refl
 

@@ -12,10 +12,10 @@ use crate::output::put_packet;
 use crate::table::Table;
 use context::kept::Link;
 use context::refusal::Refusal;
+use rebuild::full::fill;
 use refresh::fh::judge_fh;
 use refresh::fh::read_fh;
 use refresh::judgement::Judgement;
-use rebuild::full::fill;
 
 // A full header that was judged good. The packet is as long as it, since only what stands in two fields differs.
 fn accept_full(t: Table, s: &[u8], out: &mut [u8]) -> Answer

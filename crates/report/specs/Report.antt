@@ -19,12 +19,14 @@ brokenBy Broken = true
 abbrev pub isBroken : DecompressorContext → Bool
 isBroken c = brokenBy (c .status)
 
--- what is said of the broken contexts, the lowest first; i: the first one's number. A context that was never filled holds 0 for
--- link sequence and generation (rule 2.4)
+-- what is said of a broken context. One that was never filled holds 0 for link sequence and generation (rule 2.4)
+abbrev pub stateOf : ℕ → DecompressorContext → State
+stateOf i c = record { context = i; link = c .link .sequence; generation = c .link .generation }
+
+-- of every broken one, the lowest first; i: the first one's number
 abbrev pub statesFrom : ℕ → List DecompressorContext → List State
 statesFrom i [] = []
-statesFrom i (c ∷ cs) =
-    cond (isBroken c) (record { context = i; link = c .link .sequence; generation = c .link .generation } ∷ statesFrom (suc i) cs) (statesFrom (suc i) cs)
+statesFrom i (c ∷ cs) = cond (isBroken c) (stateOf i c ∷ statesFrom (suc i) cs) (statesFrom (suc i) cs)
 
 -- with none broken there is nothing to report
 abbrev pub reportOn : List State → List ℕ
