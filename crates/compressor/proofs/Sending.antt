@@ -15,8 +15,10 @@ use Rattle.compressor.specs.Answer.{Result, refused}
 use Rattle.compressor.specs.AnswerLaws.{delivered-refused, delivered-written}
 use Rattle.compressor.specs.Table.{contextAt, withContext}
 use Rattle.compressor.specs.Send.{stepOn, kindNumber, linkBytes, sentBytes, sendStep}
-use Rattle.compressor.specs.Size.{linkSize, Writable, sendWith}
-use Rattle.compressor.specs.SizeLaws.{rest-drop, length-linkBytes, length-sentBytes}
+use Rattle.outgoing.specs.Size.{linkSize, Writable}
+use Rattle.outgoing.specs.SizeLaws.{length-linkBytes}
+use Rattle.compressor.specs.Ready.{sendWith}
+use Rattle.compressor.specs.SentLaws.{rest-drop, length-sentBytes}
 
 -- a: the step; size, start: the bytes that go out before the rest of the packet, and the place where that begins
 module _ (t : Table) (i : ℕ) (p output : List ℕ) (h : Header) (a : Step) (w : Writable h a) (size start : ℕ)

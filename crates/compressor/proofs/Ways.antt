@@ -17,7 +17,7 @@ use Rattle.compressor.specs.Table.{soundOf}
 use Rattle.compressor.specs.Lookup.{placeOf}
 use Rattle.compressor.specs.Send.{sendAt, sendPlain, sendTo, lengthAllowed, sendOf}
 use Rattle.compressor.specs.SendLaws.{On, placeOf-found}
-use Rattle.compressor.specs.Size.{sendWith}
+use Rattle.compressor.specs.Ready.{sendWith}
 
 module _ (t : Table) (p output : List ℕ) where
   pub way-unsound : soundOf t ≡ false → refused t 1 output ≡ sendOf t p output

@@ -56,7 +56,7 @@ pub fn receive(
 ) -> decompressor::answer::Answer
     ensures { λ r. ⌜ receiving.said r (now (out .exit)) ≡ receiveOf t kind (now (s .entry)) (now (out .entry)) ⌝ }
 {
-    decompressor::receive::receive(t, kind, s, out)
+    receive::receive(t, kind, s, out)
 }
 
 // What is to be sent back of the broken contexts; of none, nothing.

@@ -1,4 +1,4 @@
-use Rattle.compressor.specs.SizeLaws.{length-rest}
+use Rattle.compressor.specs.SentLaws.{length-rest}
 use native.Mathlib.Omega.{arith}
 use Rattle.compressor.proofs.Sending.{past-link, sendWith-refused, sendWith-written}
 use borrow.Author.Needs.{needs}
