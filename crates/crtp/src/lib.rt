@@ -15,6 +15,19 @@ ghost use Rattle.decompressor.specs.Table as decompressing;
 ghost use Rattle.decompressor.specs.Receive.{receiveOf};
 ghost use Rattle.report.specs.Report.{reportOf};
 
+// The table of a compressor that is not open, to be handed to an opening.
+pub fn no_compressor() -> compressor::table::Table
+    ensures { λ r. ⌜ r ≡ compressing.unopened ⌝ }
+{
+    compressor::table::unopened()
+}
+
+pub fn no_decompressor() -> decompressor::table::Table
+    ensures { λ r. ⌜ r ≡ decompressing.unopened ⌝ }
+{
+    decompressor::table::unopened()
+}
+
 // Opens a compressor for losses of up to n packets in a row and for k flows at a time; refused, the table stays.
 pub fn open_compressor(t: compressor::table::Table, n: u32, k: u32) -> compressor::answer::Answer
     ensures { λ r. ⌜ sending.said r [] ≡ compressing.openOf t n k ⌝ }
