@@ -1,4 +1,3 @@
-// The packets of the demonstration: one voice stream.
 ghost use mathlib.Core.Path.{_≡_};
 ghost use Prim.Native.Nat.{_≤_, _<_};
 ghost use Rattle.headers.specs.Range.{Narrow};
@@ -8,7 +7,9 @@ use packet::header::Header;
 use packet::header::Ip;
 use packet::header::Rtp;
 
-// 20 ms of speech at 8,000 samples a second; a second passes before packet 20.
+pub const PACKETS: u32 = 60;
+
+// 20 ms of speech at 8,000 samples a second; a pause of a second before packet 20.
 fn timestamp(i: u32) -> u32 {
     if i < 20 {
         return 1000 + 160 * i;
@@ -41,7 +42,7 @@ fn sources(i: u32) -> Csrc
     }
 }
 
-// The header of packet i; a marker says that speech begins. Its UDP checksum is blank.
+// The header of packet i; the marker says that speech begins. Its UDP checksum is blank.
 pub fn header(i: u32) -> Header
     ensures { λ r. ⌜ Narrow r × (r .csrc .count ≤ 1) ⌝ }
 {
@@ -74,6 +75,29 @@ pub fn header(i: u32) -> Header
         marker: (i == 0) | (i == 20),
         checksum: 0,
     }
+}
+
+// Fills in the payload of packet i, from start up to end.
+fn put_payload(out: &mut [u8; 84], start: usize, end: usize, i: u32)
+    requires { ⌜ end ≤ 84 ⌝ }
+{
+    let mut j = start;
+    while j < end {
+        out[j] = (i % 256) as u8;
+        j += 1;
+    }
+}
+
+// Writes packet i, its header and 20 bytes of payload, and answers its length.
+pub fn put_packet(out: &mut [u8; 84], i: u32) -> usize
+    ensures { λ r. ⌜ r ≤ 64 ⌝ }
+{
+    let h = header(i);
+    let size = headers::read::header_size(h);
+    let total = size + 20;
+    headerwrite::write::put_printed(out, 0, h, total as u16);
+    put_payload(out, size, total, i);
+    total
 }
 
 // Which packets the link loses: never more than two in a row.
