@@ -5,22 +5,18 @@ use mathlib.Core.Path.{_≡_}
 use mathlib.Core.List.{List}
 use native.Mathlib.Omega.{arith}
 use lib.ListN.{length, drop, take, length-append, length-drop}
-use lib.Seq.{take-all}
 use Rattle.packet.specs.declared.header.Header.{Header}
 use Rattle.headers.specs.Header.{headerSize}
 use Rattle.context.specs.declared.step.Step.{Step}
+use Rattle.context.proofs.Arrays.{part-rest}
 use Rattle.outgoing.specs.Size.{linkSize, Writable}
 use Rattle.outgoing.specs.SizeLaws.{length-linkBytes}
 use Rattle.compressor.specs.Send.{linkBytes, sentBytes}
 
----- parts of a packet
-
--- what a part from a place to the end holds
-pub rest-drop : (p : List ℕ) (start : ℕ) → take (length p - start) (drop start p) ≡ drop start p
-rest-drop p start = take-all (length p - start) (drop start p) (omega (arith, length-drop start p))
+---- the rest of a packet
 
 pub length-rest : (p : List ℕ) (start : ℕ) → length (take (length p - start) (drop start p)) ≡ length p - start
-length-rest p start = rw (rest-drop p start) (length-drop start p)
+length-rest p start = rw (part-rest p start) (length-drop start p)
 
 ---- sentBytes
 

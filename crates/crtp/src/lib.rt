@@ -50,14 +50,14 @@ pub fn open_decompressor(
 pub fn send(t: compressor::table::Table, p: &[u8], out: &mut [u8]) -> compressor::answer::Answer
     ensures { λ r. ⌜ sending.said r (now (out .exit)) ≡ sendOf t (now (p .entry)) (now (out .entry)) ⌝ }
 {
-    compressor::send::send(t, p, out)
+    send::send(t, p, out)
 }
 
 // What a report from the other end asks for: the contexts that it names get full headers again.
 pub fn request(t: compressor::table::Table, s: &[u8]) -> compressor::answer::Answer
     ensures { λ r. ⌜ sending.said r [] ≡ requestOf t (now (s .entry)) ⌝ }
 {
-    compressor::request::request(t, s)
+    request::request(t, s)
 }
 
 // The packet that the bytes s, which came off the link with this type, stand for.

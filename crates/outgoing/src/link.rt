@@ -10,9 +10,9 @@ use encode::cr::cr_size;
 use encode::cr::put_cr;
 use encode::cu::cu_size;
 use encode::cu::put_cu;
+use packet::header::Header;
 use refresh::fh::fh_size;
 use refresh::fh::put_fh;
-use packet::header::Header;
 
 // The number that goes with the bytes.
 pub fn kind_number(k: Kind) -> u8

@@ -6,12 +6,12 @@ ghost use Rattle.refresh.specs.declared.judgement.Judgement.the-variants.{Good}
 ghost use Rattle.decompressor.specs.Answer.{said, delivered};
 ghost use Rattle.decompressor.specs.TableLaws.{Sound};
 ghost use Rattle.decompressor.specs.Receive.{packetOf, fullTable, receiveFull};
-use decompressor::answer::Answer;
-use decompressor::answer::Outcome;
 use crate::output::put_packet;
-use decompressor::table::Table;
 use context::kept::Link;
 use context::refusal::Refusal;
+use decompressor::answer::Answer;
+use decompressor::answer::Outcome;
+use decompressor::table::Table;
 use rebuild::full::fill;
 use refresh::fh::judge_fh;
 use refresh::fh::read_fh;

@@ -15,14 +15,14 @@ ghost use lib.ListN.{length};
 ghost use Rattle.decompressor.specs.Answer.{said};
 ghost use Rattle.decompressor.specs.TableLaws.{Sound};
 ghost use Rattle.decompressor.specs.Receive.{receivePlain, oldForm, receiveKind, receiveOf};
-use decompressor::answer::Answer;
-use decompressor::answer::Outcome;
 use crate::compressed::receive_compressed;
 use crate::full::receive_full;
-use decompressor::table::Table;
-use decompressor::table::sound;
 use bytes::put::put_all;
 use context::refusal::Refusal;
+use decompressor::answer::Answer;
+use decompressor::answer::Outcome;
+use decompressor::table::Table;
+use decompressor::table::sound;
 
 // A plain packet is given out as it came.
 fn receive_plain(t: Table, s: &[u8], out: &mut [u8]) -> Answer

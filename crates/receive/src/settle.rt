@@ -6,12 +6,12 @@ ghost use Rattle.context.specs.Decompressor.{rebuilt};
 ghost use Rattle.context.specs.declared.decompressor.Outcome.the-variants.{Accepted};
 ghost use Rattle.decompressor.specs.Receive.{rebuildTo, settle, settleRead};
 ghost use Rattle.receive.specs.Taken.{Takes};
-use decompressor::answer::Outcome;
 use crate::output::packet_size;
 use crate::output::put_packet;
 use context::decompressor::Applied;
 use context::decompressor::DecompressorContext;
 use context::refusal::Refusal;
+use decompressor::answer::Outcome;
 use fields::place::Place;
 use rebuild::header::rebuild;
 

@@ -2,7 +2,7 @@ use Rattle.codes.specs.BytesLaws.{allBytes-elements}
 use Rattle.decompressor.specs.PacketLaws.{full-size, length-full, said-noRoom, said-accepted}
 use Rattle.decompressor.specs.Receive.{packetOf, fullTable}
 use Rattle.decompressor.specs.TableLaws.{sound-most}
-use Rattle.decompressor.proofs.Arrays.{part-rest}
+use Rattle.context.proofs.Arrays.{part-rest}
 use lib.ListN.{length, drop}
 use Rattle.refresh.specs.Fh.{fhOf}
 use Rattle.refresh.specs.FhLaws.{fhJudged-good, fhOf-within, fhOf-context, fhOf-range}

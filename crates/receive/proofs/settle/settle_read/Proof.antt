@@ -1,6 +1,6 @@
 use Rattle.context.specs.declared.refusal.Refusal.the-variants as refusals
 use Rattle.receive.specs.TakenLaws.{takes-refused}
-use Rattle.decompressor.proofs.Arrays.{part-rest}
+use Rattle.context.proofs.Arrays.{part-rest}
 use borrow.Author.Needs.{needs}
 use Rattle.receive.proofs.settle.settle_read.Statement.{statement}
 use Rattle.receive.proofs.settle.settle_read.Tie as tie

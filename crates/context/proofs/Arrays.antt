@@ -1,5 +1,5 @@
 -- Iarwennol. Arrays and slices as the proofs meet them. Assumes nothing.
--- Used by the loops over the contexts, and where the rest of a packet is handed on.
+-- Used by the loops over the contexts of a table, and where the rest of a packet is handed on.
 use Prim.Native.Nat.{ℕ, _-_}
 use mathlib.Core.Path.{_≡_, sym, _∙_}
 use mathlib.Core.List.{List, map}

@@ -1,14 +1,20 @@
+// A send: what the compressor makes of a packet.
+//
+// Tables, their soundness, the lookup of a flow's context and the answers are `compressor`'s, and so is the definition `sendOf`,
+// which says all that a send does. What goes out on a context is decided in `outgoing`; here a packet finds its context, and the
+// result finds its output.
+// Read `send` first.
 ghost use mathlib.Core.Path.{_≡_};
 ghost use Rattle.compressor.specs.Answer.{said};
 ghost use Rattle.compressor.specs.Send.{sendPlain, sendOf};
 ghost use Rattle.compressor.specs.Ready.{Ready, sendWith};
-use crate::answer::Answer;
-use crate::answer::Outcome;
-use crate::lookup::Found;
-use crate::lookup::find;
-use crate::table::Table;
-use crate::table::sound;
 use bytes::put::put_all;
+use compressor::answer::Answer;
+use compressor::answer::Outcome;
+use compressor::lookup::Found;
+use compressor::lookup::find;
+use compressor::table::Table;
+use compressor::table::sound;
 use context::refusal::Refusal;
 use headers::form::is_compressible;
 use headers::read::read_header;

@@ -1,14 +1,14 @@
 use borrow.Author.Tests.{not-true, not-false}
 use Rattle.compressor.specs.Request.{requestTable}
 use Rattle.compressor.specs.ReadyLaws.{sound-repeats, sound-most}
 use Rattle.compressor.specs.TableLaws.{soundOf-true}
 use mathlib.Core.Path.{sym, _∙_}
 use Rattle.refresh.specs.declared.judgement.Judgement.the-variants.{Good, Cut, Forbidden, NoSuchContext}
 use Rattle.refresh.specs.CsLaws.{requestJudged-good}
 use Rattle.compressor.specs.RequestLaws.{requestOf-unsound, requestOf-judged}
 use borrow.Author.Needs.{needs}
-use Rattle.compressor.proofs.request.request.Statement.{statement}
-use Rattle.compressor.proofs.request.request.Tie as tie
+use Rattle.request.proofs.request.Statement.{statement}
+use Rattle.request.proofs.request.Tie as tie
 
 sound-requires : tie.Need-sound-requires
 sound-requires c κs = search needs

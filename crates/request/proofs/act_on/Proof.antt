@@ -1,6 +1,6 @@
 use borrow.Author.Needs.{needs}
-use Rattle.compressor.proofs.request.act_on.Statement.{statement}
-use Rattle.compressor.proofs.request.act_on.Tie as tie
+use Rattle.request.proofs.act_on.Statement.{statement}
+use Rattle.request.proofs.act_on.Tie as tie
 
 request-requires : tie.Need-request-requires
 request-requires c κs = search needs

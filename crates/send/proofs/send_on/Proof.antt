@@ -1,9 +1,9 @@
 use Rattle.compressor.specs.SentLaws.{length-rest}
 use native.Mathlib.Omega.{arith}
-use Rattle.compressor.proofs.Sending.{past-link, sendWith-refused, sendWith-written}
+use Rattle.send.proofs.Sending.{past-link, sendWith-refused, sendWith-written}
 use borrow.Author.Needs.{needs}
-use Rattle.compressor.proofs.send.send_on.Statement.{statement}
-use Rattle.compressor.proofs.send.send_on.Tie as tie
+use Rattle.send.proofs.send_on.Statement.{statement}
+use Rattle.send.proofs.send_on.Tie as tie
 
 mul-c : tie.Need-mul-c
 mul-c c = search needs

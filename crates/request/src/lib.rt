@@ -1,15 +1,20 @@
+// A request: what the compressor makes of a context-state packet from the other end.
+//
+// Tables, their soundness and the answers are `compressor`'s, and so is the definition `requestOf`; the bytes of a record are
+// `refresh`'s, what a request does to one context is `compress`'s.
+// Read `request` first.
 ghost use mathlib.Core.Path.{_≡_};
 ghost use mathlib.Core.Bool.{cond};
 ghost use mathlib.Core.List.{[]};
 ghost use Prim.Native.Nat.{_≤_};
 ghost use Rattle.refresh.specs.CsLaws.{RequestGood};
 ghost use Rattle.context.specs.Compressor.{requested};
 ghost use Rattle.compressor.specs.Answer.{said};
 ghost use Rattle.compressor.specs.Request.{requestTable, requestOf};
-use crate::answer::Answer;
-use crate::answer::Outcome;
-use crate::table::Table;
-use crate::table::sound;
+use compressor::answer::Answer;
+use compressor::answer::Outcome;
+use compressor::table::Table;
+use compressor::table::sound;
 use context::compressor::CompressorContext;
 use context::refusal::Refusal;
 use refresh::cs::judge_request;

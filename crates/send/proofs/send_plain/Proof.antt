@@ -1,7 +1,7 @@
 use Rattle.compressor.specs.AnswerLaws.{delivered-refused, delivered-written}
 use borrow.Author.Needs.{needs}
-use Rattle.compressor.proofs.send.send_plain.Statement.{statement}
-use Rattle.compressor.proofs.send.send_plain.Tie as tie
+use Rattle.send.proofs.send_plain.Statement.{statement}
+use Rattle.send.proofs.send_plain.Tie as tie
 
 returns : tie.Need-returns
 returns c = let a = c .before .before .before .args in delivered-refused (a .t) (a .t) 0 (a .p .now) (a .out .now) (c .if1 .taken)

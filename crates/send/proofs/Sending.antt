@@ -10,15 +10,16 @@ use Rattle.bytes.specs.Put.{Wrote}
 use Rattle.bytes.specs.PutLaws.{wrote-then}
 use Rattle.headers.specs.Header.{headerSize}
 use Rattle.context.specs.declared.step.Step.{Step}
 use Rattle.compressor.specs.declared.table.Table.{Table}
 use Rattle.compressor.specs.Answer.{Result, refused}
 use Rattle.compressor.specs.AnswerLaws.{delivered-refused, delivered-written}
 use Rattle.compressor.specs.Table.{contextAt, withContext}
 use Rattle.compressor.specs.Send.{stepOn, kindNumber, linkBytes, sentBytes, sendStep}
+use Rattle.context.proofs.Arrays.{part-rest}
 use Rattle.outgoing.specs.Size.{linkSize, Writable}
 use Rattle.outgoing.specs.SizeLaws.{length-linkBytes}
 use Rattle.compressor.specs.Ready.{sendWith}
-use Rattle.compressor.specs.SentLaws.{rest-drop, length-sentBytes}
+use Rattle.compressor.specs.SentLaws.{length-sentBytes}
 
 -- a: the step; size, start: the bytes that go out before the rest of the packet, and the place where that begins
 module _ (t : Table) (i : ℕ) (p output : List ℕ) (h : Header) (a : Step) (w : Writable h a) (size start : ℕ)
@@ -31,7 +32,7 @@ module _ (t : Table) (i : ℕ) (p output : List ℕ) (h : Header) (a : Step) (w 
 
   wrote-sent : {between output′ : List ℕ} {past n : ℕ} → Wrote output between 0 past (linkBytes i (length p) h a)
       → Wrote between output′ past n (take (length p - start) (drop start p)) → Wrote output output′ 0 n (sentBytes i p h a)
-  wrote-sent x y = wrote-then x (rw (rest-drop p start, f) at y)
+  wrote-sent x y = wrote-then x (rw (part-rest p start, f) at y)
 
   step-written : {between output′ : List ℕ} {past n : ℕ} → size + (length p - start) ≤ length output → Wrote output between 0 past (linkBytes i (length p) h a)
       → Wrote between output′ past n (take (length p - start) (drop start p))

@@ -1,13 +1,13 @@
 use Rattle.compressor.specs.RequestLaws.{askedAll-more, requestTable-made}
 use Prim.Native.Nat.{_≤_, _-_}
 use lib.ListN.{length, length-set}
 use mathlib.Core.Path.{_≡_, refl, sym, _∙_}
 use native.Mathlib.Omega.{arith}
 use borrow.Author.Needs.{needs}
-use Rattle.compressor.proofs.Arrays.{length-mapped}
+use Rattle.context.proofs.Arrays.{length-mapped}
 use Rattle.compressor.specs.Request.{askedAll}
-use Rattle.compressor.proofs.request.act_on_all.Statement.{statement}
-use Rattle.compressor.proofs.request.act_on_all.Tie as tie
+use Rattle.request.proofs.act_on_all.Statement.{statement}
+use Rattle.request.proofs.act_on_all.Tie as tie
 
 abbrev Inv-loop : tie.InvT-loop
 Inv-loop s n count next₀ i₀ next i = (i ≤ count) × (length (next .contexts) ≡ 64) × (next .settings ≡ next₀ .settings) × (next .contexts ≡ askedAll n s (next₀ .contexts) i)

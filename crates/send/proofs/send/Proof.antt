@@ -4,15 +4,15 @@ use mathlib.Core.Path.{_≡_, sym, _∙_}
 use native.Mathlib.Omega.{arith}
 use Rattle.codes.specs.BytesLaws.{allBytes-elements}
 use Rattle.headers.specs.CompressibleLaws.{compressible-true}
 use Rattle.compressor.specs.ReadyLaws.{sound-most, ready-on}
 use Rattle.compressor.specs.TableLaws.{soundOf-true}
 use Rattle.compressor.specs.Table.{soundOf}
 use Rattle.compressor.specs.Send.{lengthAllowed}
-use Rattle.compressor.proofs.Arrays.{length-mapped}
-use Rattle.compressor.proofs.Ways.{way-unsound, way-length, way-plain, way-nowhere, way-at, way-on}
+use Rattle.context.proofs.Arrays.{length-mapped}
+use Rattle.send.proofs.Ways.{way-unsound, way-length, way-plain, way-nowhere, way-at, way-on}
 use borrow.Author.Needs.{needs}
-use Rattle.compressor.proofs.send.send.Statement.{statement}
-use Rattle.compressor.proofs.send.send.Tie as tie
+use Rattle.send.proofs.send.Statement.{statement}
+use Rattle.send.proofs.send.Tie as tie
 
 contexts-length : (c : tie.Start) → length (c .args .t .contexts) ≡ 64
 contexts-length c = search (needs, length-mapped)
