@@ -1,0 +1,257 @@
+use crate::clock::now;
+use crate::clock::passed;
+use crate::show::line;
+use batch::tally::Tally;
+use batch::tally::count_batch;
+use batch::tally::nothing;
+use batch::turns::copy_all;
+use batch::turns::make;
+use batch::turns::receive_all;
+use batch::turns::send_all;
+
+// Microseconds of a round's 32,000 sends, receives and copies.
+pub struct Times {
+    pub send: u64,
+    pub receive: u64,
+    pub copy: u64,
+}
+
+// Both ends, and what was counted and measured so far.
+struct State {
+    compressor: compressor::table::Table,
+    decompressor: decompressor::table::Table,
+    tally: Tally,
+    times: Times,
+}
+
+// The sends of a batch, timed.
+struct Sent {
+    table: compressor::table::Table,
+    time: u64,
+}
+
+fn send_timed(
+    t: compressor::table::Table,
+    packets: &[u8],
+    links: &mut [u8],
+    kinds: &mut [u8],
+    lengths: &mut [usize],
+) -> Sent {
+    let from = now();
+    let after = send_all(t, packets, links, kinds, lengths);
+    let to = now();
+    Sent {
+        table: after,
+        time: passed(from, to),
+    }
+}
+
+struct Received {
+    table: decompressor::table::Table,
+    time: u64,
+}
+
+fn receive_timed(
+    t: decompressor::table::Table,
+    links: &[u8],
+    kinds: &[u8],
+    lengths: &[usize],
+    rebuilt: &mut [u8],
+) -> Received {
+    let from = now();
+    let after = receive_all(t, links, kinds, lengths, rebuilt);
+    let to = now();
+    Received {
+        table: after,
+        time: passed(from, to),
+    }
+}
+
+fn copy_timed(packets: &[u8], copies: &mut [u8]) -> u64 {
+    let from = now();
+    copy_all(packets, copies);
+    let to = now();
+    passed(from, to)
+}
+
+fn later(t: Times, send: u64, receive: u64, copy: u64) -> Times {
+    Times {
+        send: std::num::wrapping_add_u64(t.send, send),
+        receive: std::num::wrapping_add_u64(t.receive, receive),
+        copy: std::num::wrapping_add_u64(t.copy, copy),
+    }
+}
+
+// The packets of a batch over the link and back.
+fn cross(
+    s: State,
+    packets: &[u8],
+    links: &mut [u8],
+    kinds: &mut [u8],
+    lengths: &mut [usize],
+    rebuilt: &mut [u8],
+) -> State {
+    let c = s.compressor;
+    let d = s.decompressor;
+    let measured = s.times;
+    let mut next = s;
+    let x = send_timed(c, packets, links, kinds, lengths);
+    let y = receive_timed(d, links, kinds, lengths, rebuilt);
+    let sender = x.table;
+    let receiver = y.table;
+    next.compressor = sender;
+    next.decompressor = receiver;
+    next.times = later(measured, x.time, y.time, 0);
+    next
+}
+
+fn counted(
+    s: State,
+    packets: &[u8],
+    links: &[u8],
+    kinds: &[u8],
+    lengths: &[usize],
+    rebuilt: &[u8],
+) -> State {
+    let mut next = s;
+    let before = s.tally;
+    next.tally = count_batch(before, packets, links, kinds, lengths, rebuilt);
+    next
+}
+
+// The floor of the same packets; the link packets are no longer needed.
+fn floor(s: State, packets: &[u8], links: &mut [u8]) -> State {
+    let time = copy_timed(packets, links);
+    let mut next = s;
+    next.times = later(s.times, 0, 0, time);
+    next
+}
+
+fn opened(k: u32) -> State {
+    let c = crtp::open_compressor(crtp::no_compressor(), 2, k);
+    let d = crtp::open_decompressor(crtp::no_decompressor(), 2, k);
+    let sender = c.table;
+    let receiver = d.table;
+    State {
+        compressor: sender,
+        decompressor: receiver,
+        tally: nothing(),
+        times: Times {
+            send: 0,
+            receive: 0,
+            copy: 0,
+        },
+    }
+}
+
+// The next packets, over the link and back.
+fn cross_next(
+    s: State,
+    streams: u32,
+    i: u32,
+    packets: &mut [u8],
+    links: &mut [u8],
+    kinds: &mut [u8],
+    lengths: &mut [usize],
+    rebuilt: &mut [u8],
+) -> State {
+    make(streams, i, packets);
+    cross(s, packets, links, kinds, lengths, rebuilt)
+}
+
+// What crossed is counted, and copied for the floor.
+fn settle(
+    s: State,
+    packets: &[u8],
+    links: &mut [u8],
+    kinds: &[u8],
+    lengths: &[usize],
+    rebuilt: &[u8],
+) -> State {
+    let more = counted(s, packets, links, kinds, lengths, rebuilt);
+    floor(more, packets, links)
+}
+
+fn batch(
+    s: State,
+    streams: u32,
+    i: u32,
+    packets: &mut [u8],
+    links: &mut [u8],
+    kinds: &mut [u8],
+    lengths: &mut [usize],
+    rebuilt: &mut [u8],
+) -> State {
+    let crossed = cross_next(s, streams, i, packets, links, kinds, lengths, rebuilt);
+    settle(crossed, packets, links, kinds, lengths, rebuilt)
+}
+
+fn batches(
+    first: State,
+    streams: u32,
+    packets: &mut [u8],
+    links: &mut [u8],
+    kinds: &mut [u8],
+    lengths: &mut [usize],
+    rebuilt: &mut [u8],
+) -> State {
+    let mut s = first;
+    let mut i = 0u32;
+    while i < 500 {
+        s = batch(s, streams, i, packets, links, kinds, lengths, rebuilt);
+        i += 1;
+    }
+    s
+}
+
+fn round(streams: u32, k: u32) -> State {
+    let mut packets = [0u8; 12800];
+    let mut links = [0u8; 12800];
+    let mut rebuilt = [0u8; 12800];
+    let mut kinds = [0u8; 64];
+    let mut lengths = [0usize; 64];
+    batches(
+        opened(k),
+        streams,
+        &mut packets,
+        &mut links,
+        &mut kinds,
+        &mut lengths,
+        &mut rebuilt,
+    )
+}
+
+fn least(a: u64, b: u64) -> u64 {
+    if a < b { a } else { b }
+}
+
+fn best(a: Times, b: Times) -> Times {
+    Times {
+        send: least(a.send, b.send),
+        receive: least(a.receive, b.receive),
+        copy: least(a.copy, b.copy),
+    }
+}
+
+fn best_of_nine(streams: u32, k: u32, first: Times) -> Times {
+    let mut t = first;
+    let mut i = 1u32;
+    while i < 9 {
+        let s = round(streams, k);
+        t = best(t, s.times);
+        i += 1;
+    }
+    t
+}
+
+// One configuration: so many streams through ends with k contexts.
+pub fn run(streams: u32, k: u32, timed: bool) {
+    let s = round(streams, k);
+    let counted = s.tally;
+    let first = s.times;
+    if timed {
+        line(streams, k, counted, best_of_nine(streams, k, first), true);
+        return;
+    }
+    line(streams, k, counted, first, false);
+}
