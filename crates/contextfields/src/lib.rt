@@ -1,0 +1,9 @@
+// A context as a row of numbers, each with a name, so that a call script can show one and write one field of it.
+//
+// What both ends keep has the same place in both rows. Nothing here is judged: a table written by hand may hold any numbers
+// that its fields' types have room for.
+// Read `compressor::values` and `decompressor::place` first.
+pub mod compressor;
+pub mod decompressor;
+pub mod refusal;
+pub mod shared;
