@@ -1,5 +1,6 @@
 ghost use Prim.Native.Nat.{_≤_, _<_};
 ghost use lib.ListN.{length};
+use crate::line::Ran;
 use crate::line::Tables;
 use crate::line::run_line;
 use crate::line::unopened;
@@ -13,13 +14,13 @@ struct Lines {
     start: usize,
 }
 
-// The next line end from a place on, or the end of the buffer.
-fn line_end(buf: &[u8], at: usize) -> usize
-    requires { ⌜ at ≤ length (now buf) ⌝ }
-    ensures { λ r. ⌜ (at ≤ r) × (r ≤ length (now (buf .entry))) ⌝ }
+// The next line end from a place on, or the end of what the buffer is filled with.
+fn line_end(buf: &[u8], at: usize, filled: usize) -> usize
+    requires { ⌜ (at ≤ filled) × (filled ≤ length (now buf)) ⌝ }
+    ensures { λ r. ⌜ (at ≤ r) × (r ≤ filled) ⌝ }
 {
     let mut i = at;
-    while i < buf.len() {
+    while i < filled {
         if buf[i] == b'\n' {
             return i;
         }
@@ -40,21 +41,50 @@ fn flush_if_full(text: &[u8], at: usize) -> usize
     at
 }
 
-// Every whole line of the buffer.
-fn run_lines(t: Tables, buf: &[u8], input: &mut [u8], output: &mut [u8], text: &mut [u8]) -> Lines
-    ensures { λ r. ⌜ r .start ≤ length (now (buf .entry)) ⌝ }
+// One line, its answer and a line end.
+fn answer_line(
+    t: Tables,
+    line: &[u8],
+    input: &mut [u8],
+    output: &mut [u8],
+    text: &mut [u8],
+    at: usize,
+) -> Ran
+    requires { ⌜ at ≤ length (now text) ⌝ }
+    ensures { λ r. ⌜ r .at ≤ length (now (text .exit)) ⌝ }
+{
+    let r = run_line(t, line, input, output, text, at);
+    let tables = r.tables;
+    let past = put(text, r.at, b'\n');
+    Ran {
+        tables: tables,
+        at: flush_if_full(text, past),
+    }
+}
+
+// Every whole line of what the buffer is filled with.
+fn run_lines(
+    t: Tables,
+    buf: &[u8],
+    filled: usize,
+    input: &mut [u8],
+    output: &mut [u8],
+    text: &mut [u8],
+) -> Lines
+    requires { ⌜ filled ≤ length (now buf) ⌝ }
+    ensures { λ r. ⌜ r .start ≤ filled ⌝ }
 {
     let mut tables = t;
     let mut start = 0;
     let mut at = 0;
-    let mut end = line_end(buf, 0);
-    while end < buf.len() {
-        let r = run_line(tables, &buf[start..end], input, output, text, at);
+    let mut end = line_end(buf, 0, filled);
+    while end < filled {
+        let past = end + 1;
+        let r = answer_line(tables, &buf[start..end], input, output, text, at);
         tables = r.tables;
-        let past = put(text, r.at, b'\n');
-        at = flush_if_full(text, past);
-        start = end + 1;
-        end = line_end(buf, start);
+        at = r.at;
+        start = past;
+        end = line_end(buf, start, filled);
     }
     io::write_all(STDOUT_FILENO, &text[..at]);
     Lines {
@@ -106,7 +136,7 @@ fn end_line(
     if kept < buf.len() {
         buf[kept] = b'\n';
         let end = kept + 1;
-        run_lines(t, &buf[..end], input, output, text);
+        run_lines(t, buf, end, input, output, text);
     }
 }
 
@@ -133,7 +163,7 @@ fn take_turn(
         };
     }
     let end = kept + n;
-    let r = run_lines(t, &buf[..end], input, output, text);
+    let r = run_lines(t, buf, end, input, output, text);
     let left = keep(buf, r.start, end);
     let after = r.tables;
     Turn {
