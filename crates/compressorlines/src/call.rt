@@ -40,7 +40,14 @@ pub fn run_open(t: Table, line: &[u8], w: Word, text: &mut [u8], at: usize) -> R
 }
 
 // q HEX
-pub fn run_request(t: Table, line: &[u8], w: Word, input: &mut [u8], text: &mut [u8], at: usize) -> Ran
+pub fn run_request(
+    t: Table,
+    line: &[u8],
+    w: Word,
+    input: &mut [u8],
+    text: &mut [u8],
+    at: usize,
+) -> Ran
     requires { ⌜ at ≤ length (now text) ⌝ }
     ensures { λ r. ⌜ r .at ≤ length (now (text .exit)) ⌝ }
 {

@@ -67,7 +67,14 @@ fn answer_report(t: Table, output: &mut [u8], text: &mut [u8], at: usize) -> Ran
 }
 
 // p ROOM
-pub fn run_report(t: Table, line: &[u8], w: Word, output: &mut [u8], text: &mut [u8], at: usize) -> Ran
+pub fn run_report(
+    t: Table,
+    line: &[u8],
+    w: Word,
+    output: &mut [u8],
+    text: &mut [u8],
+    at: usize,
+) -> Ran
     requires { ⌜ at ≤ length (now text) ⌝ }
     ensures { λ r. ⌜ r .at ≤ length (now (text .exit)) ⌝ }
 {
@@ -82,7 +89,14 @@ pub fn run_report(t: Table, line: &[u8], w: Word, output: &mut [u8], text: &mut 
 }
 
 // The arrival itself, with an output of its own.
-fn answer_receive(t: Table, kind: u32, p: &[u8], output: &mut [u8], text: &mut [u8], at: usize) -> Ran
+fn answer_receive(
+    t: Table,
+    kind: u32,
+    p: &[u8],
+    output: &mut [u8],
+    text: &mut [u8],
+    at: usize,
+) -> Ran
     requires { ⌜ at ≤ length (now text) ⌝ }
     ensures { λ r. ⌜ r .at ≤ length (now (text .exit)) ⌝ }
 {

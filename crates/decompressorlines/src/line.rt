@@ -1,8 +1,8 @@
 ghost use Prim.Native.Nat.{_≤_};
 ghost use lib.ListN.{length};
 use crate::call::run_open;
-use crate::call::run_report;
 use crate::call::run_receive;
+use crate::call::run_report;
 use crate::ran::Ran;
 use crate::ran::unknown;
 use crate::row::run_show;

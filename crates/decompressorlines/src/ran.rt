@@ -1,8 +1,8 @@
 ghost use Prim.Native.Nat.{_≤_};
 ghost use lib.ListN.{length};
+use contextfields::refusal::refusal_number;
 use decompressor::answer::Outcome;
 use decompressor::table::Table;
-use contextfields::refusal::refusal_number;
 use scripting::text::put;
 use settings::Settings;
 use soundness::decompressor::empty_context;

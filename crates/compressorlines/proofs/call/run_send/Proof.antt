@@ -4,127 +4,91 @@ use lib.Seq.{length-take-le}
 use borrow.Author.Needs.{needs}
 use Rattle.compressorlines.proofs.call.run_send.Statement.{statement}
 use Rattle.compressorlines.proofs.call.run_send.Tie as tie
-use Rattle.compressorlines.proofs.call.run_send.Reads as reads
-use Rattle.compressorlines.proofs.call.run_send.Lts as lts
-use Rattle.compressorlines.proofs.call.answer_send.Reads as answer-send-reads
-use Rattle.compressorlines.proofs.ran.unknown.Reads as unknown-reads
-use Rattle.scripting.proofs.hex.bytes_at.Reads as bytes-at-reads
-use Rattle.scripting.proofs.number.last_number.Reads as last-number-reads
-use Rattle.scripting.proofs.word.next_word.Reads as next-word-reads
 
--- src/call.rt:98:9
 next-word-requires : tie.Need-next-word-requires
 next-word-requires c κs = search needs
 
--- src/call.rt:99:29
 bytes-at-requires : tie.Need-bytes-at-requires
 bytes-at-requires c κs = search needs
 
--- src/call.rt:99:24
 enum-known-n : tie.Need-enum-known-n
 enum-known-n c = search needs
 
--- src/call.rt:100:27
 enum-told : tie.Need-enum-told
 enum-told c = search needs
 
--- src/call.rt:100:9
 unknown-requires : tie.Need-unknown-requires
 unknown-requires c κs = search needs
 
--- src/call.rt:100:9
 same-length : tie.Need-same-length
 same-length c = search needs
 
--- src/call.rt:100:9
 same-length-2 : tie.Need-same-length-2
 same-length-2 c = search needs
 
--- src/call.rt:100:9
 returns : tie.Need-returns
 returns c = search needs
 
--- src/call.rt:102:28
 last-number-requires : tie.Need-last-number-requires
 last-number-requires c κs = search needs
 
--- src/call.rt:102:20
 enum-known-room : tie.Need-enum-known-room
 enum-known-room c = search needs
 
--- src/call.rt:103:27
 enum-told-2 : tie.Need-enum-told-2
 enum-told-2 c = search needs
 
--- src/call.rt:103:9
 unknown-requires-2 : tie.Need-unknown-requires-2
 unknown-requires-2 c κs = search needs
 
--- src/call.rt:103:9
 same-length-3 : tie.Need-same-length-3
 same-length-3 c = search needs
 
--- src/call.rt:103:9
 same-length-4 : tie.Need-same-length-4
 same-length-4 c = search needs
 
--- src/call.rt:103:9
 returns-2 : tie.Need-returns-2
 returns-2 c = search needs
 
--- src/call.rt:105:16
 cast-room : tie.Need-cast-room
 cast-room c = search needs
 
--- src/call.rt:107:9
 unknown-requires-3 : tie.Need-unknown-requires-3
 unknown-requires-3 c κs = search needs
 
--- src/call.rt:107:9
 same-length-5 : tie.Need-same-length-5
 same-length-5 c = search needs
 
--- src/call.rt:107:9
 same-length-6 : tie.Need-same-length-6
 same-length-6 c = search needs
 
--- src/call.rt:107:9
 returns-3 : tie.Need-returns-3
 returns-3 c = search needs
 
--- src/call.rt:109:20
 slice-reshare-prefix-answer-send : tie.Need-slice-reshare-prefix-answer-send
 slice-reshare-prefix-answer-send c = rw (c .before .before .before .before .before .before .n .given .1) at (c .before .before .before .before .before .before .before .before .before .before .bytes-at .ensures)
 
--- src/call.rt:109:20
 slice-aggregate-answer-send : tie.Need-slice-aggregate-answer-send
 slice-aggregate-answer-send c = sym (length-take-le _ _ (rw (c .before .before .before .before .before .before .before .n .given .1) at (c .before .before .before .before .before .before .before .before .before .before .before .bytes-at .ensures)))
 
--- src/call.rt:109:33
 slice-relend-prefix-answer-send : tie.Need-slice-relend-prefix-answer-send
 slice-relend-prefix-answer-send c = search needs
 
--- src/call.rt:109:33
 slice-aggregate-answer-send-2 : tie.Need-slice-aggregate-answer-send-2
 slice-aggregate-answer-send-2 c = sym (length-take-le _ _ (omega arith))
 
--- src/call.rt:109:5
 answer-send-requires : tie.Need-answer-send-requires
 answer-send-requires c κs = search needs
 
--- src/call.rt:86:1
 same-length-7 : tie.Need-same-length-7
 same-length-7 c = search needs
 
--- src/call.rt:86:1
 same-length-8 : tie.Need-same-length-8
 same-length-8 c = search needs
 
--- src/call.rt:86:1
 same-length-9 : tie.Need-same-length-9
 same-length-9 c = search needs
 
--- src/call.rt:86:1
 returns-4 : tie.Need-returns-4
 returns-4 c = search needs
 

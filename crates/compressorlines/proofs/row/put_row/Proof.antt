@@ -1,13 +1,9 @@
 use mathlib.Core.Path.{_≡_}
 use lib.ListN.{length}
-use Prim.Native.Nat.{_≤_, _<_, _-_, _+_, _*_}
+use Prim.Native.Nat.{_≤_, _-_}
 use borrow.Author.Needs.{needs}
 use Rattle.compressorlines.proofs.row.put_row.Statement.{statement}
 use Rattle.compressorlines.proofs.row.put_row.Tie as tie
-use Rattle.compressorlines.proofs.row.put_row.Reads as reads
-use Rattle.compressorlines.proofs.row.put_row.Lts as lts
-use Rattle.scripting.proofs.answer.put_next.Reads as put-next-reads
-use Rattle.compressorlines.proofs.row.wide.Reads as wide-reads
 
 abbrev Inv-loop : tie.InvT-loop
 Inv-loop text₀ at row o₀ i₀ text o i = (o ≤ length text) × (i ≤ 47) × (length text ≡ length text₀) × (length row ≡ 47)
@@ -15,43 +11,33 @@ Inv-loop text₀ at row o₀ i₀ text o i = (o ≤ length text) × (i ≤ 47) �
 abbrev μ-loop : tie.MeasureT-loop
 μ-loop text₀ at row o₀ i₀ text o i = 47 - i
 
--- src/row.rt:121:5
 loop-holds : tie.Need-loop-holds Inv-loop μ-loop
 loop-holds c = search needs
 
--- src/row.rt:122:36
 mul-wide : tie.Need-mul-wide Inv-loop μ-loop
 mul-wide c = search needs
 
--- src/row.rt:122:36
 array-read-wide : tie.Need-array-read-wide Inv-loop μ-loop
 array-read-wide c = search needs
 
--- src/row.rt:122:31
 wide-requires : tie.Need-wide-requires Inv-loop μ-loop
 wide-requires c κs = search needs
 
--- src/row.rt:122:9
 put-next-requires : tie.Need-put-next-requires Inv-loop μ-loop
 put-next-requires c κs = search needs
 
--- src/row.rt:123:9
 add-i : tie.Need-add-i Inv-loop μ-loop
 add-i c = search needs
 
--- src/row.rt:121:5
 loop-less : tie.Need-loop-less Inv-loop μ-loop
 loop-less c = search needs
 
--- src/row.rt:121:5
 loop-again : tie.Need-loop-again Inv-loop μ-loop
 loop-again c = search needs
 
--- src/row.rt:115:1
 same-length : tie.Need-same-length Inv-loop μ-loop
 same-length c = search needs
 
--- src/row.rt:115:1
 returns : tie.Need-returns Inv-loop μ-loop
 returns c = search needs
 

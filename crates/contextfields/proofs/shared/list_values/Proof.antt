@@ -1,11 +1,9 @@
 use mathlib.Core.Path.{_≡_}
 use lib.ListN.{length}
-use Prim.Native.Nat.{_≤_, _<_, _-_, _+_, _*_}
+use Prim.Native.Nat.{_≤_, _-_}
 use borrow.Author.Needs.{needs}
 use Rattle.contextfields.proofs.shared.list_values.Statement.{statement}
 use Rattle.contextfields.proofs.shared.list_values.Tie as tie
-use Rattle.contextfields.proofs.shared.list_values.Reads as reads
-use Rattle.contextfields.proofs.shared.list_values.Lts as lts
 
 abbrev Inv-loop : tie.InvT-loop
 Inv-loop words v₀ i₀ v i = (i ≤ 15) × (length words ≡ 15) × (length v ≡ 47)
@@ -13,51 +11,39 @@ Inv-loop words v₀ i₀ v i = (i ≤ 15) × (length words ≡ 15) × (length v 
 abbrev μ-loop : tie.MeasureT-loop
 μ-loop words v₀ i₀ v i = 15 - i
 
--- src/compressor.rt:59:13
 cast-v : tie.Need-cast-v Inv-loop μ-loop
 cast-v c = search needs
 
--- src/compressor.rt:59:5
 array-write-v : tie.Need-array-write-v Inv-loop μ-loop
 array-write-v c = search needs
 
--- src/compressor.rt:61:5
 loop-holds : tie.Need-loop-holds Inv-loop μ-loop
 loop-holds c = search needs
 
--- src/compressor.rt:62:21
 mul-v : tie.Need-mul-v Inv-loop μ-loop
 mul-v c = search needs
 
--- src/compressor.rt:62:21
 array-read-v : tie.Need-array-read-v Inv-loop μ-loop
 array-read-v c = search needs
 
--- src/compressor.rt:62:11
 add-v : tie.Need-add-v Inv-loop μ-loop
 add-v c = search needs
 
--- src/compressor.rt:62:9
 mul-v-2 : tie.Need-mul-v-2 Inv-loop μ-loop
 mul-v-2 c = search needs
 
--- src/compressor.rt:62:9
 array-write-v-2 : tie.Need-array-write-v-2 Inv-loop μ-loop
 array-write-v-2 c = search needs
 
--- src/compressor.rt:63:9
 add-i : tie.Need-add-i Inv-loop μ-loop
 add-i c = search needs
 
--- src/compressor.rt:61:5
 loop-less : tie.Need-loop-less Inv-loop μ-loop
 loop-less c = search needs
 
--- src/compressor.rt:61:5
 loop-again : tie.Need-loop-again Inv-loop μ-loop
 loop-again c = search needs
 
--- src/compressor.rt:56:1
 returns : tie.Need-returns Inv-loop μ-loop
 returns c = search needs
 

@@ -4,73 +4,52 @@ use lib.Seq.{length-take-le}
 use borrow.Author.Needs.{needs}
 use Rattle.decompressorlines.proofs.call.run_report.Statement.{statement}
 use Rattle.decompressorlines.proofs.call.run_report.Tie as tie
-use Rattle.decompressorlines.proofs.call.run_report.Reads as reads
-use Rattle.decompressorlines.proofs.call.run_report.Lts as lts
-use Rattle.decompressorlines.proofs.call.answer_report.Reads as answer-report-reads
-use Rattle.decompressorlines.proofs.ran.unknown.Reads as unknown-reads
-use Rattle.scripting.proofs.number.last_number.Reads as last-number-reads
 
--- src/call.rt:74:28
 last-number-requires : tie.Need-last-number-requires
 last-number-requires c κs = search needs
 
--- src/call.rt:74:20
 enum-known-room : tie.Need-enum-known-room
 enum-known-room c = search needs
 
--- src/call.rt:75:27
 enum-told : tie.Need-enum-told
 enum-told c = search needs
 
--- src/call.rt:75:9
 unknown-requires : tie.Need-unknown-requires
 unknown-requires c κs = search needs
 
--- src/call.rt:75:9
 same-length : tie.Need-same-length
 same-length c = search needs
 
--- src/call.rt:75:9
 returns : tie.Need-returns
 returns c = search needs
 
--- src/call.rt:77:16
 cast-room : tie.Need-cast-room
 cast-room c = search needs
 
--- src/call.rt:79:9
 unknown-requires-2 : tie.Need-unknown-requires-2
 unknown-requires-2 c κs = search needs
 
--- src/call.rt:79:9
 same-length-2 : tie.Need-same-length-2
 same-length-2 c = search needs
 
--- src/call.rt:79:9
 returns-2 : tie.Need-returns-2
 returns-2 c = search needs
 
--- src/call.rt:81:22
 slice-relend-prefix-answer-report : tie.Need-slice-relend-prefix-answer-report
 slice-relend-prefix-answer-report c = search needs
 
--- src/call.rt:81:22
 slice-aggregate-answer-report : tie.Need-slice-aggregate-answer-report
 slice-aggregate-answer-report c = sym (length-take-le _ _ (omega arith))
 
--- src/call.rt:81:5
 answer-report-requires : tie.Need-answer-report-requires
 answer-report-requires c κs = search needs
 
--- src/call.rt:70:1
 same-length-3 : tie.Need-same-length-3
 same-length-3 c = search needs
 
--- src/call.rt:70:1
 same-length-4 : tie.Need-same-length-4
 same-length-4 c = search needs
 
--- src/call.rt:70:1
 returns-3 : tie.Need-returns-3
 returns-3 c = search needs
 

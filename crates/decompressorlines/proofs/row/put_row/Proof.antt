@@ -1,14 +1,9 @@
 use mathlib.Core.Path.{_≡_}
 use lib.ListN.{length}
-use Prim.Native.Nat.{_≤_, _<_, _-_, _+_, _*_}
+use Prim.Native.Nat.{_≤_, _-_}
 use borrow.Author.Needs.{needs}
 use Rattle.decompressorlines.proofs.row.put_row.Statement.{statement}
 use Rattle.decompressorlines.proofs.row.put_row.Tie as tie
-use Rattle.decompressorlines.proofs.row.put_row.Reads as reads
-use Rattle.decompressorlines.proofs.row.put_row.Lts as lts
-use Rattle.contextfields.proofs.decompressor.place.Reads as place-reads
-use Rattle.decompressorlines.proofs.row.wide.Reads as wide-reads
-use Rattle.scripting.proofs.answer.put_next.Reads as put-next-reads
 
 abbrev Inv-loop : tie.InvT-loop
 Inv-loop text₀ at row o₀ i₀ text o i = (o ≤ length text) × (i ≤ 38) × (length text ≡ length text₀) × (length row ≡ 47)
@@ -16,47 +11,36 @@ Inv-loop text₀ at row o₀ i₀ text o i = (o ≤ length text) × (i ≤ 38) �
 abbrev μ-loop : tie.MeasureT-loop
 μ-loop text₀ at row o₀ i₀ text o i = 38 - i
 
--- src/row.rt:116:5
 loop-holds : tie.Need-loop-holds Inv-loop μ-loop
 loop-holds c = search needs
 
--- src/row.rt:117:13
 place-requires : tie.Need-place-requires Inv-loop μ-loop
 place-requires c κs = search needs
 
--- src/row.rt:118:36
 mul-wide : tie.Need-mul-wide Inv-loop μ-loop
 mul-wide c = search needs
 
--- src/row.rt:118:36
 array-read-wide : tie.Need-array-read-wide Inv-loop μ-loop
 array-read-wide c = search needs
 
--- src/row.rt:118:31
 wide-requires : tie.Need-wide-requires Inv-loop μ-loop
 wide-requires c κs = search needs
 
--- src/row.rt:118:9
 put-next-requires : tie.Need-put-next-requires Inv-loop μ-loop
 put-next-requires c κs = search needs
 
--- src/row.rt:119:9
 add-i : tie.Need-add-i Inv-loop μ-loop
 add-i c = search needs
 
--- src/row.rt:116:5
 loop-less : tie.Need-loop-less Inv-loop μ-loop
 loop-less c = search needs
 
--- src/row.rt:116:5
 loop-again : tie.Need-loop-again Inv-loop μ-loop
 loop-again c = search needs
 
--- src/row.rt:110:1
 same-length : tie.Need-same-length Inv-loop μ-loop
 same-length c = search needs
 
--- src/row.rt:110:1
 returns : tie.Need-returns Inv-loop μ-loop
 returns c = search needs
 

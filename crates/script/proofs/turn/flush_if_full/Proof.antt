@@ -1,27 +1,19 @@
-use lib.ListN.{length-set}
 use mathlib.Core.Path.{sym}
 use native.Mathlib.Omega.{arith}
 use lib.Seq.{length-take-le}
 use borrow.Author.Needs.{needs}
 use Rattle.script.proofs.turn.flush_if_full.Statement.{statement}
 use Rattle.script.proofs.turn.flush_if_full.Tie as tie
-use Rattle.script.proofs.turn.flush_if_full.Reads as reads
-use Rattle.script.proofs.turn.flush_if_full.Lts as lts
-use Rattle.io.proofs.write_all.Reads as write-all-reads
 
--- src/turn.rt:37:38
 slice-aggregate-write-all : tie.Need-slice-aggregate-write-all
 slice-aggregate-write-all c = sym (length-take-le _ _ (omega arith))
 
--- src/turn.rt:37:9
 write-all-requires : tie.Need-write-all-requires
 write-all-requires c κs = search needs
 
--- src/turn.rt:38:9
 returns : tie.Need-returns
 returns c = search needs
 
--- src/turn.rt:32:1
 returns-2 : tie.Need-returns-2
 returns-2 c = search needs
 

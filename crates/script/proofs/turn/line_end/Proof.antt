@@ -3,8 +3,6 @@ use Prim.Native.Nat.{_-_, _≤_}
 use borrow.Author.Needs.{needs}
 use Rattle.script.proofs.turn.line_end.Statement.{statement}
 use Rattle.script.proofs.turn.line_end.Tie as tie
-use Rattle.script.proofs.turn.line_end.Reads as reads
-use Rattle.script.proofs.turn.line_end.Lts as lts
 
 abbrev Inv-loop : tie.InvT-loop
 Inv-loop buf at filled i₀ i = (at ≤ i) × (i ≤ filled) × (filled ≤ length buf)
@@ -12,31 +10,24 @@ Inv-loop buf at filled i₀ i = (at ≤ i) × (i ≤ filled) × (filled ≤ leng
 abbrev μ-loop : tie.MeasureT-loop
 μ-loop buf at filled i₀ i = filled - i
 
--- src/turn.rt:23:5
 loop-holds : tie.Need-loop-holds Inv-loop μ-loop
 loop-holds c = search needs
 
--- src/turn.rt:24:12
 shared-slice-read-if1 : tie.Need-shared-slice-read-if1 Inv-loop μ-loop
 shared-slice-read-if1 c = search needs
 
--- src/turn.rt:25:13
 returns : tie.Need-returns Inv-loop μ-loop
 returns c = search needs
 
--- src/turn.rt:27:9
 add-i : tie.Need-add-i Inv-loop μ-loop
 add-i c = search needs
 
--- src/turn.rt:23:5
 loop-less : tie.Need-loop-less Inv-loop μ-loop
 loop-less c = search needs
 
--- src/turn.rt:23:5
 loop-again : tie.Need-loop-again Inv-loop μ-loop
 loop-again c = search needs
 
--- src/turn.rt:18:1
 returns-2 : tie.Need-returns-2 Inv-loop μ-loop
 returns-2 c = search needs
 

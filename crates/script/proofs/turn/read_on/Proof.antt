@@ -4,10 +4,6 @@ use Prim.Native.Nat.{_≤_}
 use borrow.Author.Needs.{needs}
 use Rattle.script.proofs.turn.read_on.Statement.{statement}
 use Rattle.script.proofs.turn.read_on.Tie as tie
-use Rattle.script.proofs.turn.read_on.Reads as reads
-use Rattle.script.proofs.turn.read_on.Lts as lts
-use Rattle.script.proofs.line.unopened.Reads as unopened-reads
-use Rattle.script.proofs.turn.take_turn.Reads as take-turn-reads
 
 abbrev Inv-loop : tie.InvT-loop
 Inv-loop buf₀ input₀ output₀ text₀ tables₀ kept₀ turns₀ buf input output text tables kept turns = (kept ≤ length buf) × (length buf ≡ length buf₀) × (length input ≡ length input₀) × (length output ≡ length output₀) × (length text ≡ length text₀)
@@ -15,67 +11,51 @@ Inv-loop buf₀ input₀ output₀ text₀ tables₀ kept₀ turns₀ buf input 
 abbrev μ-loop : tie.MeasureT-loop
 μ-loop buf₀ input₀ output₀ text₀ tables₀ kept₀ turns₀ buf input output text tables kept turns = turns
 
--- src/turn.rt:178:9
 unopened-requires : tie.Need-unopened-requires Inv-loop μ-loop
 unopened-requires c κs = search needs
 
--- src/turn.rt:181:5
 loop-holds : tie.Need-loop-holds Inv-loop μ-loop
 loop-holds c = search needs
 
--- src/turn.rt:182:13
 take-turn-requires : tie.Need-take-turn-requires Inv-loop μ-loop
 take-turn-requires c κs = search needs
 
--- src/turn.rt:184:13
 same-length : tie.Need-same-length Inv-loop μ-loop
 same-length c = search needs
 
--- src/turn.rt:184:13
 same-length-2 : tie.Need-same-length-2 Inv-loop μ-loop
 same-length-2 c = search needs
 
--- src/turn.rt:184:13
 same-length-3 : tie.Need-same-length-3 Inv-loop μ-loop
 same-length-3 c = search needs
 
--- src/turn.rt:184:13
 same-length-4 : tie.Need-same-length-4 Inv-loop μ-loop
 same-length-4 c = search needs
 
--- src/turn.rt:184:13
 returns : tie.Need-returns Inv-loop μ-loop
 returns c = search needs
 
--- src/turn.rt:188:9
 sub-turns : tie.Need-sub-turns Inv-loop μ-loop
 sub-turns c = search needs
 
--- src/turn.rt:181:5
 loop-less : tie.Need-loop-less Inv-loop μ-loop
 loop-less c = search needs
 
--- src/turn.rt:181:5
 loop-again : tie.Need-loop-again Inv-loop μ-loop
 loop-again c = search needs
 
--- src/turn.rt:177:1
 same-length-5 : tie.Need-same-length-5 Inv-loop μ-loop
 same-length-5 c = search needs
 
--- src/turn.rt:177:1
 same-length-6 : tie.Need-same-length-6 Inv-loop μ-loop
 same-length-6 c = search needs
 
--- src/turn.rt:177:1
 same-length-7 : tie.Need-same-length-7 Inv-loop μ-loop
 same-length-7 c = search needs
 
--- src/turn.rt:177:1
 same-length-8 : tie.Need-same-length-8 Inv-loop μ-loop
 same-length-8 c = search needs
 
--- src/turn.rt:177:1
 returns-2 : tie.Need-returns-2 Inv-loop μ-loop
 returns-2 c = search needs
 

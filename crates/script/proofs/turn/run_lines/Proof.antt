@@ -6,11 +6,6 @@ use Prim.Native.Nat.{_-_, _≤_}
 use borrow.Author.Needs.{needs}
 use Rattle.script.proofs.turn.run_lines.Statement.{statement}
 use Rattle.script.proofs.turn.run_lines.Tie as tie
-use Rattle.script.proofs.turn.run_lines.Reads as reads
-use Rattle.script.proofs.turn.run_lines.Lts as lts
-use Rattle.io.proofs.write_all.Reads as write-all-reads
-use Rattle.script.proofs.turn.answer_line.Reads as answer-line-reads
-use Rattle.script.proofs.turn.line_end.Reads as line-end-reads
 
 abbrev Inv-loop : tie.InvT-loop
 Inv-loop buf filled input₀ output₀ text₀ tables₀ start₀ at₀ end₀ input output text tables start at end =
@@ -21,71 +16,54 @@ abbrev μ-loop : tie.MeasureT-loop
 μ-loop buf filled input₀ output₀ text₀ tables₀ start₀ at₀ end₀ input output text tables start at end =
     filled - end
 
--- src/turn.rt:80:9
 line-end-requires : tie.Need-line-end-requires Inv-loop μ-loop
 line-end-requires c κs = search needs
 
--- src/turn.rt:81:5
 loop-holds : tie.Need-loop-holds Inv-loop μ-loop
 loop-holds c = search needs
 
--- src/turn.rt:82:20
 add-past : tie.Need-add-past Inv-loop μ-loop
 add-past c = search needs
 
--- src/turn.rt:83:37
 sub-answer-line : tie.Need-sub-answer-line Inv-loop μ-loop
 sub-answer-line c = search needs
 
--- src/turn.rt:83:37
 part-answer-line-start : tie.Need-part-answer-line-start Inv-loop μ-loop
 part-answer-line-start c = search needs
 
--- src/turn.rt:83:37
 part-answer-line-end : tie.Need-part-answer-line-end Inv-loop μ-loop
 part-answer-line-end c = search needs
 
--- src/turn.rt:83:13
 answer-line-requires : tie.Need-answer-line-requires Inv-loop μ-loop
 answer-line-requires c κs = search needs
 
--- src/turn.rt:87:9
 line-end-requires-2 : tie.Need-line-end-requires-2 Inv-loop μ-loop
 line-end-requires-2 c κs = search needs
 
--- src/turn.rt:81:5
 loop-less : tie.Need-loop-less Inv-loop μ-loop
 loop-less c = search needs
 
--- src/turn.rt:81:5
 loop-again : tie.Need-loop-again Inv-loop μ-loop
 loop-again c = search needs
 
--- src/turn.rt:89:34
 slice-reshare-prefix-write-all : tie.Need-slice-reshare-prefix-write-all Inv-loop μ-loop
 slice-reshare-prefix-write-all c = search needs
 
--- src/turn.rt:89:34
 slice-aggregate-write-all : tie.Need-slice-aggregate-write-all Inv-loop μ-loop
 slice-aggregate-write-all c = sym (length-take-le _ _ (omega arith))
 
--- src/turn.rt:89:5
 write-all-requires : tie.Need-write-all-requires Inv-loop μ-loop
 write-all-requires c κs = search needs
 
--- src/turn.rt:66:1
 same-length : tie.Need-same-length Inv-loop μ-loop
 same-length c = search needs
 
--- src/turn.rt:66:1
 same-length-2 : tie.Need-same-length-2 Inv-loop μ-loop
 same-length-2 c = search needs
 
--- src/turn.rt:66:1
 same-length-3 : tie.Need-same-length-3 Inv-loop μ-loop
 same-length-3 c = search needs
 
--- src/turn.rt:66:1
 returns : tie.Need-returns Inv-loop μ-loop
 returns c = search needs
 

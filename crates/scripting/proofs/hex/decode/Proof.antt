@@ -1,14 +1,10 @@
-use lib.ListN.{length-set}
+use lib.ListN.{length-set, length}
 use native.Mathlib.Omega.{arith}
 use mathlib.Core.Path.{_≡_}
-use lib.ListN.{length}
-use Prim.Native.Nat.{_≤_, _<_, _-_, _+_, _*_}
+use Prim.Native.Nat.{_≤_, _-_, _*_}
 use borrow.Author.Needs.{needs}
 use Rattle.scripting.proofs.hex.decode.Statement.{statement}
 use Rattle.scripting.proofs.hex.decode.Tie as tie
-use Rattle.scripting.proofs.hex.decode.Reads as reads
-use Rattle.scripting.proofs.hex.decode.Lts as lts
-use Rattle.scripting.proofs.hex.value.Reads as value-reads
 
 abbrev Inv-loop : tie.InvT-loop
 Inv-loop word n bytes₀ i₀ bytes i = (2 * n ≤ length word) × (n ≤ length bytes) × (i ≤ n) × (length bytes ≡ length bytes₀)
@@ -16,75 +12,57 @@ Inv-loop word n bytes₀ i₀ bytes i = (2 * n ≤ length word) × (n ≤ length
 abbrev μ-loop : tie.MeasureT-loop
 μ-loop word n bytes₀ i₀ bytes i = n - i
 
--- src/hex.rt:32:5
 loop-holds : tie.Need-loop-holds Inv-loop μ-loop
 loop-holds c = search needs
 
--- src/hex.rt:33:31
 mul-value : tie.Need-mul-value Inv-loop μ-loop
 mul-value c = search needs
 
--- src/hex.rt:33:26
 shared-slice-read-value : tie.Need-shared-slice-read-value Inv-loop μ-loop
 shared-slice-read-value c = search needs
 
--- src/hex.rt:33:13
 value-requires : tie.Need-value-requires Inv-loop μ-loop
 value-requires c κs = search needs
 
--- src/hex.rt:34:30
 mul-value-2 : tie.Need-mul-value-2 Inv-loop μ-loop
 mul-value-2 c = search needs
 
--- src/hex.rt:34:30
 add-value : tie.Need-add-value Inv-loop μ-loop
 add-value c = search needs
 
--- src/hex.rt:34:25
 shared-slice-read-value-2 : tie.Need-shared-slice-read-value-2 Inv-loop μ-loop
 shared-slice-read-value-2 c = search needs
 
--- src/hex.rt:34:13
 value-requires-2 : tie.Need-value-requires-2 Inv-loop μ-loop
 value-requires-2 c κs = search needs
 
--- src/hex.rt:36:13
 same-length : tie.Need-same-length Inv-loop μ-loop
 same-length c = search needs
 
--- src/hex.rt:36:13
 returns : tie.Need-returns Inv-loop μ-loop
 returns c = search needs
 
--- src/hex.rt:38:20
 mul-bytes : tie.Need-mul-bytes Inv-loop μ-loop
 mul-bytes c = search needs
 
--- src/hex.rt:38:20
 add-bytes : tie.Need-add-bytes Inv-loop μ-loop
 add-bytes c = search needs
 
--- src/hex.rt:38:9
 slice-write-bytes : tie.Need-slice-write-bytes Inv-loop μ-loop
 slice-write-bytes c = search needs
 
--- src/hex.rt:39:9
 add-i : tie.Need-add-i Inv-loop μ-loop
 add-i c = search needs
 
--- src/hex.rt:32:5
 loop-less : tie.Need-loop-less Inv-loop μ-loop
 loop-less c = search needs
 
--- src/hex.rt:32:5
 loop-again : tie.Need-loop-again Inv-loop μ-loop
 loop-again c = (omega arith, simp length-set (omega arith), omega arith, simp length-set (omega arith))
 
--- src/hex.rt:27:1
 same-length-2 : tie.Need-same-length-2 Inv-loop μ-loop
 same-length-2 c = search needs
 
--- src/hex.rt:27:1
 returns-2 : tie.Need-returns-2 Inv-loop μ-loop
 returns-2 c = search needs
 

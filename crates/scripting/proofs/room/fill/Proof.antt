@@ -1,13 +1,10 @@
-use lib.ListN.{length-set}
+use lib.ListN.{length-set, length}
 use native.Mathlib.Omega.{arith}
 use mathlib.Core.Path.{_≡_}
-use lib.ListN.{length}
-use Prim.Native.Nat.{_≤_, _<_, _-_, _+_, _*_}
+use Prim.Native.Nat.{_≤_, _-_}
 use borrow.Author.Needs.{needs}
 use Rattle.scripting.proofs.room.fill.Statement.{statement}
 use Rattle.scripting.proofs.room.fill.Tie as tie
-use Rattle.scripting.proofs.room.fill.Reads as reads
-use Rattle.scripting.proofs.room.fill.Lts as lts
 
 abbrev Inv-loop : tie.InvT-loop
 Inv-loop output₀ i₀ output i = (i ≤ length output₀) × (length output ≡ length output₀)
@@ -15,31 +12,24 @@ Inv-loop output₀ i₀ output i = (i ≤ length output₀) × (length output �
 abbrev μ-loop : tie.MeasureT-loop
 μ-loop output₀ i₀ output i = length output₀ - i
 
--- src/room.rt:6:5
 loop-holds : tie.Need-loop-holds Inv-loop μ-loop
 loop-holds c = search needs
 
--- src/room.rt:7:9
 slice-write-output : tie.Need-slice-write-output Inv-loop μ-loop
 slice-write-output c = search needs
 
--- src/room.rt:8:9
 add-i : tie.Need-add-i Inv-loop μ-loop
 add-i c = search needs
 
--- src/room.rt:6:5
 loop-less : tie.Need-loop-less Inv-loop μ-loop
 loop-less c = search needs
 
--- src/room.rt:6:5
 loop-again : tie.Need-loop-again Inv-loop μ-loop
 loop-again c = (omega arith, simp length-set (omega arith))
 
--- src/room.rt:4:1
 same-length : tie.Need-same-length Inv-loop μ-loop
 same-length c = search needs
 
--- src/room.rt:4:1
 returns : tie.Need-returns Inv-loop μ-loop
 returns c = search needs
 

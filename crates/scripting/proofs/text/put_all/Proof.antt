@@ -1,12 +1,9 @@
 use mathlib.Core.Path.{_≡_}
 use lib.ListN.{length}
-use Prim.Native.Nat.{_≤_, _<_, _-_, _+_, _*_}
+use Prim.Native.Nat.{_≤_, _-_}
 use borrow.Author.Needs.{needs}
 use Rattle.scripting.proofs.text.put_all.Statement.{statement}
 use Rattle.scripting.proofs.text.put_all.Tie as tie
-use Rattle.scripting.proofs.text.put_all.Reads as reads
-use Rattle.scripting.proofs.text.put_all.Lts as lts
-use Rattle.scripting.proofs.text.put.Reads as put-reads
 
 abbrev Inv-loop : tie.InvT-loop
 Inv-loop text₀ at s o₀ i₀ text o i = (o ≤ length text) × (i ≤ length s) × (length text ≡ length text₀)
@@ -14,35 +11,27 @@ Inv-loop text₀ at s o₀ i₀ text o i = (o ≤ length text) × (i ≤ length 
 abbrev μ-loop : tie.MeasureT-loop
 μ-loop text₀ at s o₀ i₀ text o i = length s - i
 
--- src/text.rt:22:5
 loop-holds : tie.Need-loop-holds Inv-loop μ-loop
 loop-holds c = search needs
 
--- src/text.rt:23:26
 shared-slice-read-put : tie.Need-shared-slice-read-put Inv-loop μ-loop
 shared-slice-read-put c = search needs
 
--- src/text.rt:23:9
 put-requires : tie.Need-put-requires Inv-loop μ-loop
 put-requires c κs = search needs
 
--- src/text.rt:24:9
 add-i : tie.Need-add-i Inv-loop μ-loop
 add-i c = search needs
 
--- src/text.rt:22:5
 loop-less : tie.Need-loop-less Inv-loop μ-loop
 loop-less c = search needs
 
--- src/text.rt:22:5
 loop-again : tie.Need-loop-again Inv-loop μ-loop
 loop-again c = search needs
 
--- src/text.rt:16:1
 same-length : tie.Need-same-length Inv-loop μ-loop
 same-length c = search needs
 
--- src/text.rt:16:1
 returns : tie.Need-returns Inv-loop μ-loop
 returns c = search needs
 
