@@ -1,8 +1,6 @@
 ghost use Prim.Native.Nat.{_≤_};
 ghost use lib.ListN.{length};
-use compressor::answer::Outcome;
 use compressor::table::Table;
-use contextfields::refusal::refusal_number;
 use scripting::text::put;
 use settings::Settings;
 use soundness::compressor::empty_context;
@@ -32,26 +30,4 @@ pub fn unknown(t: Table, text: &mut [u8], at: usize) -> Ran
 {
     let n = put(text, at, b'?');
     Ran { table: t, at: n }
-}
-
-// An outcome as the numbers that a script shows.
-pub struct Shown {
-    pub number: u64,
-    pub kind: u64,
-    pub length: usize,
-}
-
-pub fn numbers_of(o: Outcome) -> Shown {
-    match o {
-        Outcome::Accepted(k, n) => Shown {
-            number: 0,
-            kind: k as u64,
-            length: n,
-        },
-        Outcome::Refused(r) => Shown {
-            number: refusal_number(r),
-            kind: 0,
-            length: 0,
-        },
-    }
 }

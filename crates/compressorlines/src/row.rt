@@ -1,86 +1,50 @@
 ghost use Prim.Native.Nat.{_≤_, _<_};
 ghost use lib.ListN.{length};
+ghost use Rattle.contextfields.specs.Entry.{contextOf, placeOf};
 use crate::ran::Ran;
-use crate::ran::unknown;
 use compressor::table::Table;
-use contextfields::compressor::context_of;
-use contextfields::compressor::field_at;
-use contextfields::compressor::most;
+use context::compressor::CompressorContext;
+use contextfields::compressor::entry_at;
 use contextfields::compressor::values;
+use contextfields::compressor::with_value;
+use contextfields::entry::Entry;
+use contextfields::entry::put_written;
+use contextfields::entry::with_setting;
 use scripting::answer::put_next;
 use scripting::number::Number;
-use scripting::number::Pair;
 use scripting::number::last_number;
-use scripting::number::last_pair;
-use scripting::text::put_all;
+use scripting::text::put;
 use scripting::text::put_number;
 use scripting::word::Word;
-use scripting::word::is_word;
-use scripting::word::next_word;
+use settings::Settings;
 
-// The table with another number in one field of context i.
-fn with_field(t: Table, i: usize, field: usize, v: u32) -> Table
-    requires { ⌜ (i < 64) × (field < 47) ⌝ }
+// The table with another number at one place of context i's row.
+fn with_field(t: Table, i: usize, place: usize, v: u32) -> Table
+    requires { ⌜ (i < 64) × (place < 47) ⌝ }
 {
     let c = t.contexts[i];
-    let mut row = values(c);
-    row[field] = v;
-    let d = context_of(row);
+    let d = with_value(c, place, v);
     let mut next = t;
     next.contexts[i] = d;
     next
 }
 
-fn with_repeats(t: Table, v: u8) -> Table {
+fn with_settings(t: Table, repeats: bool, v: u8) -> Table {
+    let s = t.settings;
+    let changed = with_setting(s, repeats, v);
     let mut next = t;
-    next.settings.repeats = v;
+    next.settings = changed;
     next
 }
 
-fn with_contexts(t: Table, v: u8) -> Table {
-    let mut next = t;
-    next.settings.contexts = v;
-    next
-}
-
-// A field that was written.
-fn done(t: Table, text: &mut [u8], at: usize) -> Ran
-    requires { ⌜ at ≤ length (now text) ⌝ }
-    ensures { λ r. ⌜ r .at ≤ length (now (text .exit)) ⌝ }
+fn written(t: Table, e: Entry) -> Table
+    requires { ⌜ (contextOf e < 64) × (placeOf e < 47) ⌝ }
 {
-    let n = put_all(text, at, b"ok");
-    Ran { table: t, at: n }
-}
-
-// ws n 0 VALUE, ws k 0 VALUE
-fn write_setting(t: Table, repeats: bool, i: u32, v: u32, text: &mut [u8], at: usize) -> Ran
-    requires { ⌜ at ≤ length (now text) ⌝ }
-    ensures { λ r. ⌜ r .at ≤ length (now (text .exit)) ⌝ }
-{
-    if (i != 0) | (255 < v) {
-        return unknown(t, text, at);
+    match e {
+        Entry::Setting(repeats, v) => with_settings(t, repeats, v),
+        Entry::Field(i, place, v) => with_field(t, i, place, v),
+        Entry::No => t,
     }
-    let v = (v % 256) as u8;
-    if repeats {
-        return done(with_repeats(t, v), text, at);
-    }
-    done(with_contexts(t, v), text, at)
-}
-
-fn write_field(t: Table, field: usize, i: u32, v: u32, text: &mut [u8], at: usize) -> Ran
-    requires { ⌜ at ≤ length (now text) ⌝ }
-    ensures { λ r. ⌜ r .at ≤ length (now (text .exit)) ⌝ }
-{
-    if 47 <= field {
-        return unknown(t, text, at);
-    }
-    if 64 <= i {
-        return unknown(t, text, at);
-    }
-    if most(field) < v {
-        return unknown(t, text, at);
-    }
-    done(with_field(t, i as usize, field, v), text, at)
 }
 
 // ws FIELD I VALUE
@@ -88,17 +52,13 @@ pub fn run_write(t: Table, line: &[u8], w: Word, text: &mut [u8], at: usize) -> 
     requires { ⌜ at ≤ length (now text) ⌝ }
     ensures { λ r. ⌜ r .at ≤ length (now (text .exit)) ⌝ }
 {
-    let a = next_word(line, w);
-    let repeats = is_word(line, a, b"n");
-    let setting = repeats | is_word(line, a, b"k");
-    let field = field_at(line, a);
-    let Pair::Are(i, v) = last_pair(line, a) else {
-        return unknown(t, text, at);
-    };
-    if setting {
-        return write_setting(t, repeats, i, v, text, at);
+    let e = entry_at(line, w);
+    let n = put_written(text, at, e);
+    let after = written(t, e);
+    Ran {
+        table: after,
+        at: n,
     }
-    write_field(t, field, i, v, text, at)
 }
 
 fn wide(v: u32) -> u64 {
@@ -118,23 +78,29 @@ fn put_row(text: &mut [u8], at: usize, row: [u32; 47]) -> usize
     o
 }
 
-// ds I
-pub fn run_show(t: Table, line: &[u8], w: Word, text: &mut [u8], at: usize) -> Ran
+fn put_context(text: &mut [u8], at: usize, s: Settings, c: CompressorContext) -> usize
     requires { ⌜ at ≤ length (now text) ⌝ }
-    ensures { λ r. ⌜ r .at ≤ length (now (text .exit)) ⌝ }
+    ensures { λ r. ⌜ r ≤ length (now (text .exit)) ⌝ }
+{
+    let repeats = put_number(text, at, s.repeats as u64);
+    let contexts = put_next(text, repeats, s.contexts as u64);
+    let row = values(c);
+    put_row(text, contexts, row)
+}
+
+// ds I
+pub fn show(t: Table, line: &[u8], w: Word, text: &mut [u8], at: usize) -> usize
+    requires { ⌜ at ≤ length (now text) ⌝ }
+    ensures { λ r. ⌜ r ≤ length (now (text .exit)) ⌝ }
 {
     let Number::Is(i) = last_number(line, w) else {
-        return unknown(t, text, at);
+        return put(text, at, b'?');
     };
     if 64 <= i {
-        return unknown(t, text, at);
+        return put(text, at, b'?');
     }
     let i = i as usize;
     let c = t.contexts[i];
-    let row = values(c);
     let s = t.settings;
-    let repeats = put_number(text, at, s.repeats as u64);
-    let contexts = put_next(text, repeats, s.contexts as u64);
-    let end = put_row(text, contexts, row);
-    Ran { table: t, at: end }
+    put_context(text, at, s, c)
 }

@@ -1,5 +1,8 @@
-ghost use Prim.Native.Nat.{_≤_};
+ghost use Prim.Native.Nat.{_≤_, _<_};
 ghost use lib.ListN.{length};
+ghost use Rattle.contextfields.specs.Entry.{contextOf, placeOf};
+use crate::entry;
+use crate::entry::Entry;
 use crate::shared;
 use crate::shared::bit;
 use crate::shared::byte;
@@ -9,11 +12,15 @@ use context::compressor::Due;
 use context::compressor::Earlier;
 use context::compressor::Usage;
 use context::kept::Link;
+use scripting::number::Pair;
+use scripting::number::last_pair;
 use scripting::word::Word;
+use scripting::word::is_word;
 use scripting::word::name_index;
+use scripting::word::next_word;
 
 // Which field a word of a line names: its place in the row, 47 for none.
-pub fn field_at(line: &[u8], w: Word) -> usize
+fn field_at(line: &[u8], w: Word) -> usize
     requires { ⌜ (w .at ≤ w .end) × (w .end ≤ length (now line)) ⌝ }
 {
     name_index(
@@ -24,7 +31,7 @@ pub fn field_at(line: &[u8], w: Word) -> usize
 }
 
 // The largest number that a field's type holds.
-pub fn most(field: usize) -> u32 {
+fn most(field: usize) -> u32 {
     match field {
         0 | 34 => 1,
         35 => 65535,
@@ -112,7 +119,7 @@ fn usage_of(v: u32) -> Usage {
 }
 
 // The context that a row stands for.
-pub fn context_of(v: [u32; 47]) -> CompressorContext {
+fn context_of(v: [u32; 47]) -> CompressorContext {
     let status = usage_of(v[0]);
     let flow = shared::flow_of(v);
     let ip = shared::ip_of(v);
@@ -141,4 +148,34 @@ pub fn context_of(v: [u32; 47]) -> CompressorContext {
         due: due,
         link: link,
     }
+}
+
+// The context with another number at a place of its row.
+pub fn with_value(c: CompressorContext, place: usize, v: u32) -> CompressorContext
+    requires { ⌜ place < 47 ⌝ }
+{
+    let mut row = values(c);
+    row[place] = v;
+    context_of(row)
+}
+
+// What the words FIELD I VALUE after a word write.
+pub fn entry_at(line: &[u8], w: Word) -> Entry
+    ensures { λ r. ⌜ (contextOf r < 64) × (placeOf r < 47) ⌝ }
+{
+    let a = next_word(line, w);
+    let Pair::Are(i, v) = last_pair(line, a) else {
+        return Entry::No;
+    };
+    if is_word(line, a, b"n") {
+        return entry::setting(true, i, v);
+    }
+    if is_word(line, a, b"k") {
+        return entry::setting(false, i, v);
+    }
+    let f = field_at(line, a);
+    if 47 <= f {
+        return Entry::No;
+    }
+    entry::field(i, f, most(f), v)
 }

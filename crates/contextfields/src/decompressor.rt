@@ -1,16 +1,23 @@
 ghost use Prim.Native.Nat.{_≤_, _<_};
 ghost use lib.ListN.{length};
+ghost use Rattle.contextfields.specs.Entry.{contextOf, placeOf};
+use crate::entry;
+use crate::entry::Entry;
 use crate::shared;
 use crate::shared::bit;
 use crate::shared::byte;
 use context::decompressor::DecompressorContext;
 use context::decompressor::Status;
 use context::kept::Link;
+use scripting::number::Pair;
+use scripting::number::last_pair;
 use scripting::word::Word;
+use scripting::word::is_word;
 use scripting::word::name_index;
+use scripting::word::next_word;
 
 // Which field a word of a line names, in the order of showing; 38 for none.
-pub fn field_at(line: &[u8], w: Word) -> usize
+fn field_at(line: &[u8], w: Word) -> usize
     requires { ⌜ (w .at ≤ w .end) × (w .end ≤ length (now line)) ⌝ }
 {
     name_index(
@@ -35,7 +42,7 @@ pub fn place(field: usize) -> usize
 }
 
 // The largest number that the type of the field at a place holds.
-pub fn most(place: usize) -> u32 {
+fn most(place: usize) -> u32 {
     match place {
         0 => 2,
         34 | 35 => 1,
@@ -82,7 +89,7 @@ fn status_of(v: u32) -> Status {
 }
 
 // The context that a row stands for.
-pub fn context_of(v: [u32; 47]) -> DecompressorContext {
+fn context_of(v: [u32; 47]) -> DecompressorContext {
     let status = status_of(v[0]);
     let flow = shared::flow_of(v);
     let ip = shared::ip_of(v);
@@ -105,4 +112,35 @@ pub fn context_of(v: [u32; 47]) -> DecompressorContext {
         deltas: deltas,
         link: link,
     }
+}
+
+// The context with another number at a place of its row.
+pub fn with_value(c: DecompressorContext, place: usize, v: u32) -> DecompressorContext
+    requires { ⌜ place < 47 ⌝ }
+{
+    let mut row = values(c);
+    row[place] = v;
+    context_of(row)
+}
+
+// What the words FIELD I VALUE after a word write.
+pub fn entry_at(line: &[u8], w: Word) -> Entry
+    ensures { λ r. ⌜ (contextOf r < 64) × (placeOf r < 47) ⌝ }
+{
+    let a = next_word(line, w);
+    let Pair::Are(i, v) = last_pair(line, a) else {
+        return Entry::No;
+    };
+    if is_word(line, a, b"n") {
+        return entry::setting(true, i, v);
+    }
+    if is_word(line, a, b"k") {
+        return entry::setting(false, i, v);
+    }
+    let f = field_at(line, a);
+    if 38 <= f {
+        return Entry::No;
+    }
+    let p = place(f);
+    entry::field(i, p, most(p), v)
 }

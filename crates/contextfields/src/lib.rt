@@ -5,5 +5,6 @@
 // Read `compressor::values` and `decompressor::place` first.
 pub mod compressor;
 pub mod decompressor;
+pub mod entry;
 pub mod refusal;
 pub mod shared;

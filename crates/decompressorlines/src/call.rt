@@ -1,23 +1,21 @@
 ghost use Prim.Native.Nat.{_≤_};
 ghost use lib.ListN.{length};
+use crate::answer::put_answer;
+use crate::answer::put_opened;
 use crate::ran::Ran;
-use crate::ran::numbers_of;
 use crate::ran::unknown;
-use decompressor::answer::Outcome;
 use decompressor::receive::receive;
 use decompressor::table::Table;
 use decompressor::table::open;
 use report::report;
-use scripting::answer::put_output;
-use scripting::hex::Decoded;
-use scripting::hex::bytes_at;
 use scripting::number::Number;
 use scripting::number::Pair;
 use scripting::number::last_number;
 use scripting::number::last_pair;
 use scripting::number::number_at;
+use scripting::packet::Packet;
+use scripting::packet::packet_at;
 use scripting::room::fill;
-use scripting::text::put_number;
 use scripting::word::Word;
 use scripting::word::next_word;
 
@@ -31,23 +29,12 @@ pub fn run_open(t: Table, line: &[u8], w: Word, text: &mut [u8], at: usize) -> R
     };
     let r = open(t, n, k);
     let o = r.outcome;
-    let s = numbers_of(o);
-    let end = put_number(text, at, s.number);
+    let end = put_opened(text, at, o);
     let after = r.table;
     Ran {
         table: after,
         at: end,
     }
-}
-
-// A call's outcome and what it gave out.
-fn put_answer(text: &mut [u8], at: usize, o: Outcome, output: &[u8]) -> usize
-    requires { ⌜ at ≤ length (now text) ⌝ }
-    ensures { λ r. ⌜ r ≤ length (now (text .exit)) ⌝ }
-{
-    let s = numbers_of(o);
-    let number = put_number(text, at, s.number);
-    put_output(text, number, output, s.length)
 }
 
 // The report itself, with an output of its own.
@@ -125,19 +112,11 @@ pub fn run_receive(
     ensures { λ r. ⌜ r .at ≤ length (now (text .exit)) ⌝ }
 {
     let a = next_word(line, w);
-    let b = next_word(line, a);
     let Number::Is(kind) = number_at(line, a) else {
         return unknown(t, text, at);
     };
-    let Decoded::Bytes(n) = bytes_at(line, b, input) else {
+    let Packet::Is(n, room) = packet_at(line, a, output.len(), input) else {
         return unknown(t, text, at);
     };
-    let Number::Is(room) = last_number(line, b) else {
-        return unknown(t, text, at);
-    };
-    let room = room as usize;
-    if output.len() < room {
-        return unknown(t, text, at);
-    }
     answer_receive(t, kind, &input[..n], &mut output[..room], text, at)
 }

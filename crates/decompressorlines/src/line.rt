@@ -5,8 +5,8 @@ use crate::call::run_receive;
 use crate::call::run_report;
 use crate::ran::Ran;
 use crate::ran::unknown;
-use crate::row::run_show;
 use crate::row::run_write;
+use crate::row::show;
 use decompressor::table::Table;
 use scripting::word::Word;
 use scripting::word::name_index;
@@ -37,7 +37,10 @@ pub fn run_line(
         1 => run_report(t, line, w, output, text, at),
         2 => run_open(t, line, w, text, at),
         3 => run_write(t, line, w, text, at),
-        4 => run_show(t, line, w, text, at),
+        4 => {
+            let n = show(t, line, w, text, at);
+            Ran { table: t, at: n }
+        }
         _ => unknown(t, text, at),
     }
 }

@@ -1,7 +1,5 @@
 ghost use Prim.Native.Nat.{_≤_};
 ghost use lib.ListN.{length};
-use contextfields::refusal::refusal_number;
-use decompressor::answer::Outcome;
 use decompressor::table::Table;
 use scripting::text::put;
 use settings::Settings;
@@ -32,23 +30,4 @@ pub fn unknown(t: Table, text: &mut [u8], at: usize) -> Ran
 {
     let n = put(text, at, b'?');
     Ran { table: t, at: n }
-}
-
-// An outcome as the numbers that a script shows.
-pub struct Shown {
-    pub number: u64,
-    pub length: usize,
-}
-
-pub fn numbers_of(o: Outcome) -> Shown {
-    match o {
-        Outcome::Accepted(n) => Shown {
-            number: 0,
-            length: n,
-        },
-        Outcome::Refused(r) => Shown {
-            number: refusal_number(r),
-            length: 0,
-        },
-    }
 }

@@ -1,5 +1,6 @@
 ghost use Prim.Native.Nat.{_≤_};
 ghost use lib.ListN.{length};
+use scripting::word::Word;
 use scripting::word::first_word;
 
 // Both ends' tables.
@@ -35,30 +36,76 @@ pub fn run_line(
     ensures { λ r. ⌜ r .at ≤ length (now (text .exit)) ⌝ }
 {
     let w = first_word(line);
-    let sender = t.compressor;
-    let receiver = t.decompressor;
     let call = compressorlines::line::call_at(line, w);
     if call < 5 {
-        let r = compressorlines::line::run_line(call, sender, line, w, input, output, text, at);
-        let after = r.table;
-        let tables = Tables {
-            compressor: after,
-            decompressor: receiver,
-        };
-        return Ran {
-            tables: tables,
-            at: r.at,
-        };
+        return run_compressor(call, t, line, w, input, output, text, at);
     }
     let call = decompressorlines::line::call_at(line, w);
-    let r = decompressorlines::line::run_line(call, receiver, line, w, input, output, text, at);
+    run_decompressor(call, t, line, w, input, output, text, at)
+}
+
+// A line that names one of the compressor's calls.
+fn run_compressor(
+    call: usize,
+    t: Tables,
+    line: &[u8],
+    w: Word,
+    input: &mut [u8],
+    output: &mut [u8],
+    text: &mut [u8],
+    at: usize,
+) -> Ran
+    requires { ⌜ at ≤ length (now text) ⌝ }
+    ensures { λ r. ⌜ r .at ≤ length (now (text .exit)) ⌝ }
+{
+    let mut next = t;
+    let r = compressorlines::line::run_line(
+        call,
+        next.compressor,
+        line,
+        w,
+        input,
+        output,
+        text,
+        at,
+    );
     let after = r.table;
-    let tables = Tables {
-        compressor: sender,
-        decompressor: after,
-    };
+    next.compressor = after;
     Ran {
-        tables: tables,
+        tables: next,
+        at: r.at,
+    }
+}
+
+// Any other line: the decompressor's call that it names, or none.
+fn run_decompressor(
+    call: usize,
+    t: Tables,
+    line: &[u8],
+    w: Word,
+    input: &mut [u8],
+    output: &mut [u8],
+    text: &mut [u8],
+    at: usize,
+) -> Ran
+    requires { ⌜ at ≤ length (now text) ⌝ }
+    ensures { λ r. ⌜ r .at ≤ length (now (text .exit)) ⌝ }
+{
+    let mut next = t;
+    let r = decompressorlines::line::run_line(
+        call,
+        next.decompressor,
+        line,
+        w,
+        input,
+        output,
+        text,
+        at,
+    );
+    let after = r.table;
+    next.decompressor = after;
+    Ran {
+        tables: next,
         at: r.at,
     }
 }

@@ -1,6 +1,5 @@
 ghost use Prim.Native.Nat.{_≤_, _<_};
 ghost use lib.ListN.{length};
-use crate::line::Ran;
 use crate::line::Tables;
 use crate::line::run_line;
 use crate::line::unopened;
@@ -41,25 +40,13 @@ fn flush_if_full(text: &[u8], at: usize) -> usize
     at
 }
 
-// One line, its answer and a line end.
-fn answer_line(
-    t: Tables,
-    line: &[u8],
-    input: &mut [u8],
-    output: &mut [u8],
-    text: &mut [u8],
-    at: usize,
-) -> Ran
+// The line end after an answer.
+fn end_answer(text: &mut [u8], at: usize) -> usize
     requires { ⌜ at ≤ length (now text) ⌝ }
-    ensures { λ r. ⌜ r .at ≤ length (now (text .exit)) ⌝ }
+    ensures { λ r. ⌜ r ≤ length (now (text .exit)) ⌝ }
 {
-    let r = run_line(t, line, input, output, text, at);
-    let tables = r.tables;
-    let past = put(text, r.at, b'\n');
-    Ran {
-        tables: tables,
-        at: flush_if_full(text, past),
-    }
+    let past = put(text, at, b'\n');
+    flush_if_full(text, past)
 }
 
 // Every whole line of what the buffer is filled with.
@@ -80,9 +67,9 @@ fn run_lines(
     let mut end = line_end(buf, 0, filled);
     while end < filled {
         let past = end + 1;
-        let r = answer_line(tables, &buf[start..end], input, output, text, at);
+        let r = run_line(tables, &buf[start..end], input, output, text, at);
         tables = r.tables;
-        at = r.at;
+        at = end_answer(text, r.at);
         start = past;
         end = line_end(buf, start, filled);
     }
@@ -114,13 +101,6 @@ fn keep(buf: &mut [u8], start: usize, end: usize) -> usize
     i
 }
 
-// What a turn leaves: the tables, how many bytes of a line stand at the front of the buffer, and whether the input goes on.
-struct Turn {
-    tables: Tables,
-    kept: usize,
-    more: bool,
-}
-
 // The last line may have no line end.
 fn end_line(
     t: Tables,
@@ -140,37 +120,14 @@ fn end_line(
     }
 }
 
-// One read, and the lines that it made whole.
-fn take_turn(
-    t: Tables,
-    kept: usize,
-    buf: &mut [u8],
-    input: &mut [u8],
-    output: &mut [u8],
-    text: &mut [u8],
-) -> Turn
+// One read after what is kept; answers how far the buffer is filled then.
+fn read_more(buf: &mut [u8], kept: usize) -> usize
     requires { ⌜ kept ≤ length (now buf) ⌝ }
-    ensures { λ r. ⌜ r .kept ≤ length (now (buf .exit)) ⌝ }
+    ensures { λ r. ⌜ (kept ≤ r) × (r ≤ length (now (buf .exit))) ⌝ }
 {
     let got = libc::read(STDIN_FILENO, &mut buf[kept..]);
     let n = io::count(got, &buf[kept..]);
-    if n == 0 {
-        end_line(t, kept, buf, input, output, text);
-        return Turn {
-            tables: t,
-            kept: 0,
-            more: false,
-        };
-    }
-    let end = kept + n;
-    let r = run_lines(t, buf, end, input, output, text);
-    let left = keep(buf, r.start, end);
-    let after = r.tables;
-    Turn {
-        tables: after,
-        kept: left,
-        more: true,
-    }
+    kept + n
 }
 
 // Nothing says that an input ends, and a proved loop has to: it counts its turns down from a number that no run uses up.
@@ -179,12 +136,14 @@ fn read_on(buf: &mut [u8], input: &mut [u8], output: &mut [u8], text: &mut [u8])
     let mut kept = 0;
     let mut turns = u64::MAX;
     while 0 < turns {
-        let r = take_turn(tables, kept, buf, input, output, text);
-        if !r.more {
+        let filled = read_more(buf, kept);
+        if filled == kept {
+            end_line(tables, kept, buf, input, output, text);
             return;
         }
+        let r = run_lines(tables, buf, filled, input, output, text);
         tables = r.tables;
-        kept = r.kept;
+        kept = keep(buf, r.start, filled);
         turns -= 1;
     }
 }

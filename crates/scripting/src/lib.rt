@@ -6,6 +6,7 @@
 pub mod answer;
 pub mod hex;
 pub mod number;
+pub mod packet;
 pub mod room;
 pub mod text;
 pub mod word;

@@ -1,5 +1,4 @@
 use mathlib.Core.Path.{sym}
-use native.Mathlib.Omega.{arith}
 use lib.Seq.{length-take-le}
 use borrow.Author.Needs.{needs}
 use Rattle.decompressorlines.proofs.call.run_receive.Statement.{statement}
@@ -7,9 +6,6 @@ use Rattle.decompressorlines.proofs.call.run_receive.Tie as tie
 
 next-word-requires : tie.Need-next-word-requires
 next-word-requires c κs = search needs
-
-next-word-requires-2 : tie.Need-next-word-requires-2
-next-word-requires-2 c κs = search needs
 
 number-at-requires : tie.Need-number-at-requires
 number-at-requires c κs = search needs
@@ -29,8 +25,8 @@ same-length c = search needs
 returns : tie.Need-returns
 returns c = search needs
 
-bytes-at-requires : tie.Need-bytes-at-requires
-bytes-at-requires c κs = search needs
+packet-at-requires : tie.Need-packet-at-requires
+packet-at-requires c κs = search needs
 
 enum-known-n : tie.Need-enum-known-n
 enum-known-n c = search needs
@@ -50,17 +46,20 @@ same-length-3 c = search needs
 returns-2 : tie.Need-returns-2
 returns-2 c = search needs
 
-last-number-requires : tie.Need-last-number-requires
-last-number-requires c κs = search needs
+slice-reshare-prefix-answer-receive : tie.Need-slice-reshare-prefix-answer-receive
+slice-reshare-prefix-answer-receive c = rw (c .before .n .given .1) at (c .before .before .before .before .before .packet-at .ensures .0)
 
-enum-known-room : tie.Need-enum-known-room
-enum-known-room c = search needs
+slice-aggregate-answer-receive : tie.Need-slice-aggregate-answer-receive
+slice-aggregate-answer-receive c = sym (length-take-le _ _ (rw (c .before .before .n .given .1) at (c .before .before .before .before .before .before .packet-at .ensures .0)))
 
-enum-told-3 : tie.Need-enum-told-3
-enum-told-3 c = search needs
+slice-relend-prefix-answer-receive : tie.Need-slice-relend-prefix-answer-receive
+slice-relend-prefix-answer-receive c = rw (c .before .before .n .given .1) at (c .before .before .before .before .before .before .packet-at .ensures .1)
 
-unknown-requires-3 : tie.Need-unknown-requires-3
-unknown-requires-3 c κs = search needs
+slice-aggregate-answer-receive-2 : tie.Need-slice-aggregate-answer-receive-2
+slice-aggregate-answer-receive-2 c = sym (length-take-le _ _ (rw (c .before .before .before .n .given .1) at (c .before .before .before .before .before .before .before .packet-at .ensures .1)))
+
+answer-receive-requires : tie.Need-answer-receive-requires
+answer-receive-requires c κs = search needs
 
 same-length-4 : tie.Need-same-length-4
 same-length-4 c = search needs
@@ -68,88 +67,36 @@ same-length-4 c = search needs
 same-length-5 : tie.Need-same-length-5
 same-length-5 c = search needs
 
-returns-3 : tie.Need-returns-3
-returns-3 c = search needs
-
-cast-room : tie.Need-cast-room
-cast-room c = search needs
-
-unknown-requires-4 : tie.Need-unknown-requires-4
-unknown-requires-4 c κs = search needs
-
 same-length-6 : tie.Need-same-length-6
 same-length-6 c = search needs
 
-same-length-7 : tie.Need-same-length-7
-same-length-7 c = search needs
-
-returns-4 : tie.Need-returns-4
-returns-4 c = search needs
-
-slice-reshare-prefix-answer-receive : tie.Need-slice-reshare-prefix-answer-receive
-slice-reshare-prefix-answer-receive c = rw (c .before .before .before .before .before .before .n .given .1) at (c .before .before .before .before .before .before .before .before .before .before .bytes-at .ensures)
-
-slice-aggregate-answer-receive : tie.Need-slice-aggregate-answer-receive
-slice-aggregate-answer-receive c = sym (length-take-le _ _ (rw (c .before .before .before .before .before .before .before .n .given .1) at (c .before .before .before .before .before .before .before .before .before .before .before .bytes-at .ensures)))
-
-slice-relend-prefix-answer-receive : tie.Need-slice-relend-prefix-answer-receive
-slice-relend-prefix-answer-receive c = search needs
-
-slice-aggregate-answer-receive-2 : tie.Need-slice-aggregate-answer-receive-2
-slice-aggregate-answer-receive-2 c = sym (length-take-le _ _ (omega arith))
-
-answer-receive-requires : tie.Need-answer-receive-requires
-answer-receive-requires c κs = search needs
-
-same-length-8 : tie.Need-same-length-8
-same-length-8 c = search needs
-
-same-length-9 : tie.Need-same-length-9
-same-length-9 c = search needs
-
-same-length-10 : tie.Need-same-length-10
-same-length-10 c = search needs
-
-returns-5 : tie.Need-returns-5
-returns-5 c = search needs
+returns-3 : tie.Need-returns-3
+returns-3 c = search needs
 
 pub run-receive-spec : {M : Type 1} → statement M
 run-receive-spec =
     tie.close
     (tie.spec
     next-word-requires
-    next-word-requires-2
     number-at-requires
     enum-known-kind
     enum-told
     unknown-requires
     same-length
     returns
-    bytes-at-requires
+    packet-at-requires
     enum-known-n
     enum-told-2
     unknown-requires-2
     same-length-2
     same-length-3
     returns-2
-    last-number-requires
-    enum-known-room
-    enum-told-3
-    unknown-requires-3
-    same-length-4
-    same-length-5
-    returns-3
-    cast-room
-    unknown-requires-4
-    same-length-6
-    same-length-7
-    returns-4
     slice-reshare-prefix-answer-receive
     slice-aggregate-answer-receive
     slice-relend-prefix-answer-receive
     slice-aggregate-answer-receive-2
     answer-receive-requires
-    same-length-8
-    same-length-9
-    same-length-10
-    returns-5)
+    same-length-4
+    same-length-5
+    same-length-6
+    returns-3)

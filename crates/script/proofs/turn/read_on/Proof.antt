@@ -17,8 +17,11 @@ unopened-requires c κs = search needs
 loop-holds : tie.Need-loop-holds Inv-loop μ-loop
 loop-holds c = search needs
 
-take-turn-requires : tie.Need-take-turn-requires Inv-loop μ-loop
-take-turn-requires c κs = search needs
+read-more-requires : tie.Need-read-more-requires Inv-loop μ-loop
+read-more-requires c κs = search needs
+
+end-line-requires : tie.Need-end-line-requires Inv-loop μ-loop
+end-line-requires c κs = search needs
 
 same-length : tie.Need-same-length Inv-loop μ-loop
 same-length c = search needs
@@ -34,6 +37,12 @@ same-length-4 c = search needs
 
 returns : tie.Need-returns Inv-loop μ-loop
 returns c = search needs
+
+run-lines-requires : tie.Need-run-lines-requires Inv-loop μ-loop
+run-lines-requires c κs = search needs
+
+keep-requires : tie.Need-keep-requires Inv-loop μ-loop
+keep-requires c κs = search needs
 
 sub-turns : tie.Need-sub-turns Inv-loop μ-loop
 sub-turns c = search needs
@@ -67,12 +76,15 @@ read-on-spec =
     μ-loop
     unopened-requires
     loop-holds
-    take-turn-requires
+    read-more-requires
+    end-line-requires
     same-length
     same-length-2
     same-length-3
     same-length-4
     returns
+    run-lines-requires
+    keep-requires
     sub-turns
     loop-less
     loop-again

@@ -1,8 +1,8 @@
 use mathlib.Core.Path.{_≡_, sym}
 use native.Mathlib.Omega.{arith}
-use lib.Seq.{length-take-le}
 use lib.ListN.{length}
-use Prim.Native.Nat.{_-_, _≤_}
+use lib.Seq.{length-take-le}
+use Prim.Native.Nat.{_≤_, _-_}
 use borrow.Author.Needs.{needs}
 use Rattle.script.proofs.turn.run_lines.Statement.{statement}
 use Rattle.script.proofs.turn.run_lines.Tie as tie
@@ -25,17 +25,20 @@ loop-holds c = search needs
 add-past : tie.Need-add-past Inv-loop μ-loop
 add-past c = search needs
 
-sub-answer-line : tie.Need-sub-answer-line Inv-loop μ-loop
-sub-answer-line c = search needs
+sub-run-line : tie.Need-sub-run-line Inv-loop μ-loop
+sub-run-line c = search needs
 
-part-answer-line-start : tie.Need-part-answer-line-start Inv-loop μ-loop
-part-answer-line-start c = search needs
+part-run-line-start : tie.Need-part-run-line-start Inv-loop μ-loop
+part-run-line-start c = search needs
 
-part-answer-line-end : tie.Need-part-answer-line-end Inv-loop μ-loop
-part-answer-line-end c = search needs
+part-run-line-end : tie.Need-part-run-line-end Inv-loop μ-loop
+part-run-line-end c = search needs
 
-answer-line-requires : tie.Need-answer-line-requires Inv-loop μ-loop
-answer-line-requires c κs = search needs
+run-line-requires : tie.Need-run-line-requires Inv-loop μ-loop
+run-line-requires c κs = search needs
+
+end-answer-requires : tie.Need-end-answer-requires Inv-loop μ-loop
+end-answer-requires c κs = search needs
 
 line-end-requires-2 : tie.Need-line-end-requires-2 Inv-loop μ-loop
 line-end-requires-2 c κs = search needs
@@ -76,10 +79,11 @@ run-lines-spec =
     line-end-requires
     loop-holds
     add-past
-    sub-answer-line
-    part-answer-line-start
-    part-answer-line-end
-    answer-line-requires
+    sub-run-line
+    part-run-line-start
+    part-run-line-end
+    run-line-requires
+    end-answer-requires
     line-end-requires-2
     loop-less
     loop-again
