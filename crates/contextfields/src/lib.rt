@@ -1,10 +1,8 @@
-// A context as a row of numbers, each with a name, so that a call script can show one and write one field of it.
+// The parts of a context that both ends keep, as numbers at fixed places of a row; refusals as numbers; what a line of a call
+// script writes into a table.
 //
-// What both ends keep has the same place in both rows. Nothing here is judged: a table written by hand may hold any numbers
-// that its fields' types have room for.
-// Read `compressor::values` and `decompressor::place` first.
-pub mod compressor;
-pub mod decompressor;
+// Which field has which name, and what each end keeps beside these parts, is the business of `contextrows`.
+// Read `shared::flow_values` and `entry::Entry` first.
 pub mod entry;
 pub mod refusal;
 pub mod shared;

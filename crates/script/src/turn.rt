@@ -101,32 +101,31 @@ fn keep(buf: &mut [u8], start: usize, end: usize) -> usize
     i
 }
 
-// The last line may have no line end.
-fn end_line(
-    t: Tables,
-    kept: usize,
-    buf: &mut [u8],
-    input: &mut [u8],
-    output: &mut [u8],
-    text: &mut [u8],
-) {
+// The last line may have no line end: it gets one.
+fn end_last(buf: &mut [u8], kept: usize) -> usize
+    requires { ⌜ kept ≤ length (now buf) ⌝ }
+    ensures { λ r. ⌜ (kept ≤ r) × (r ≤ length (now (buf .exit))) ⌝ }
+{
     if kept == 0 {
-        return;
+        return kept;
     }
     if kept < buf.len() {
         buf[kept] = b'\n';
-        let end = kept + 1;
-        run_lines(t, buf, end, input, output, text);
+        return kept + 1;
     }
+    kept
 }
 
-// One read after what is kept; answers how far the buffer is filled then.
+// One read after what is kept; answers how far the buffer is filled then, no further where the input has ended.
 fn read_more(buf: &mut [u8], kept: usize) -> usize
     requires { ⌜ kept ≤ length (now buf) ⌝ }
     ensures { λ r. ⌜ (kept ≤ r) × (r ≤ length (now (buf .exit))) ⌝ }
 {
     let got = libc::read(STDIN_FILENO, &mut buf[kept..]);
     let n = io::count(got, &buf[kept..]);
+    if n == 0 {
+        return end_last(buf, kept);
+    }
     kept + n
 }
 
@@ -138,7 +137,6 @@ fn read_on(buf: &mut [u8], input: &mut [u8], output: &mut [u8], text: &mut [u8])
     while 0 < turns {
         let filled = read_more(buf, kept);
         if filled == kept {
-            end_line(tables, kept, buf, input, output, text);
             return;
         }
         let r = run_lines(tables, buf, filled, input, output, text);

@@ -20,9 +20,6 @@ loop-holds c = search needs
 read-more-requires : tie.Need-read-more-requires Inv-loop μ-loop
 read-more-requires c κs = search needs
 
-end-line-requires : tie.Need-end-line-requires Inv-loop μ-loop
-end-line-requires c κs = search needs
-
 same-length : tie.Need-same-length Inv-loop μ-loop
 same-length c = search needs
 
@@ -77,7 +74,6 @@ read-on-spec =
     unopened-requires
     loop-holds
     read-more-requires
-    end-line-requires
     same-length
     same-length-2
     same-length-3
