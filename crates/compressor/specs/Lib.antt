@@ -6,9 +6,8 @@ pub mod Lookup
 pub mod LookupLaws
 pub mod Send
 pub mod SendLaws
-pub mod Size
-pub mod SizeLaws
-pub mod StepLaws
+pub mod SentLaws
+pub mod Ready
 pub mod ReadyLaws
 pub mod SoundLaws
 pub mod Request

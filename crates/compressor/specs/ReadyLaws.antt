@@ -17,8 +17,8 @@ use Rattle.compressor.specs.Table.{noContext, contextAt, soundOf}
 use Rattle.context.specs.AllLaws.{all-at}
 use Rattle.compressor.specs.TableLaws.{Sound, soundOf-true}
 use Rattle.compressor.specs.SendLaws.{On}
-use Rattle.compressor.specs.Size.{Ready}
-use Rattle.compressor.specs.StepLaws.{writable-stepOn}
+use Rattle.compressor.specs.Ready.{Ready}
+use Rattle.outgoing.specs.StepLaws.{writable-stepOn}
 
 ---- Sound
 

@@ -1,23 +1,16 @@
 -- Iarwennol. A send (rules 3.2, 5.3 to 5.5, 8): what the compressor makes of a packet.
 -- Used by the contract of send, and by the theorem on lists of calls (crtp), which is about this very definition.
 use Prim.Native.Nat.{ℕ}
-use mathlib.Core.Bool.{Bool, cond, not, _&&_}
+use mathlib.Core.Bool.{Bool, cond, _&&_}
 use mathlib.Core.List.{List, _++_}
 use lib.Dec.{leb}
 use lib.ListN.{length, drop}
 use Rattle.packet.specs.declared.header.Header.{Header}
 use Rattle.headers.specs.Header.{headerOf, headerSize}
 use Rattle.headers.specs.Compressible.{compressible}
-use Rattle.refresh.specs.Fh.{fhBytes}
-use Rattle.links.specs.Cu.{cuBytes}
-use Rattle.links.specs.Cr.{crBytes}
-use Rattle.context.specs.Compressor.{firstStep, stepOf}
-use Rattle.context.specs.declared.compressor.Usage.{Usage}
-use Rattle.context.specs.declared.compressor.Usage.the-variants.{Empty, Live}
-use Rattle.context.specs.declared.compressor.CompressorContext.{CompressorContext}
-use Rattle.context.specs.declared.step.Kind.{Kind}
-use Rattle.context.specs.declared.step.Kind.the-variants.{FullHeader, CompressedUdp, CompressedRtp}
 use Rattle.context.specs.declared.step.Step.{Step}
+pub use Rattle.outgoing.specs.Outgoing.{stepBy, kindNumber, linkBy}
+unfoldable pub use Rattle.outgoing.specs.Outgoing.{stepOn, linkBytes}
 use Rattle.compressor.specs.declared.lookup.Found.{Found}
 use Rattle.compressor.specs.declared.lookup.Found.the-variants.{At, Nowhere}
 use Rattle.compressor.specs.declared.table.Table.{Table}
@@ -26,29 +19,6 @@ use Rattle.compressor.specs.Table.{contextAt, withContext, soundOf}
 use Rattle.compressor.specs.Lookup.{placeOf}
 
 ---- On a context
-
--- rules 8.1, 8.2: the first packet of an empty context has link sequence and generation 0
-abbrev pub stepBy : Usage → (n : ℕ) → Header → CompressorContext → Step
-stepBy Empty n h c = firstStep n h (record { sequence = 0; generation = 0 })
-stepBy Live n h c = stepOf n h c
-
-unfoldable pub stepOn : (n : ℕ) → Header → CompressorContext → Step
-stepOn n h c = stepBy (c .status) n h c
-
--- rule 1.1
-abbrev pub kindNumber : Kind → ℕ
-kindNumber FullHeader = 1
-kindNumber CompressedUdp = 2
-kindNumber CompressedRtp = 3
-
--- rules 6.1 to 6.3: the header that goes out on context i for the header h of a packet of total bytes
-abbrev pub linkBy : Kind → (i total : ℕ) → Header → Step → List ℕ
-linkBy FullHeader i total h a = fhBytes i (a .link .generation) (a .link .sequence) total h
-linkBy CompressedUdp i total h a = cuBytes i (a .link .sequence) (not (a .context .blank)) (a .parts)
-linkBy CompressedRtp i total h a = crBytes i (a .link .sequence) (not (a .context .blank)) (a .parts)
-
-unfoldable pub linkBytes : (i total : ℕ) → Header → Step → List ℕ
-linkBytes i total h a = linkBy (a .kind) i total h a
 
 -- rule 5.5: what followed the CSRC list goes out as it came
 abbrev pub sentBytes : ℕ → List ℕ → Header → Step → List ℕ

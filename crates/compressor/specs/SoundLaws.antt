@@ -31,9 +31,10 @@ use Rattle.compressor.specs.TableLaws.{Sound, soundOf-true, sound-withCo
 use Rattle.compressor.specs.Lookup.{placeOf}
 use Rattle.compressor.specs.Send.{stepOn, kindNumber, sentBytes, sendAt, sendPlain, sendTo, lengthAllowed, sendOf}
 use Rattle.compressor.specs.SendLaws.{On, stepAt, sentOn, Goes, goes-refused, goes-plain, goes-on, sendOf-goes}
-use Rattle.compressor.specs.Size.{linkSize, Ready}
-use Rattle.compressor.specs.SizeLaws.{linkSize-most, length-sentBytes}
-use Rattle.compressor.specs.StepLaws.{fits-range, sound-stepOn}
+use Rattle.outgoing.specs.SizeLaws.{linkSize-most}
+use Rattle.compressor.specs.Ready.{Ready}
+use Rattle.compressor.specs.SentLaws.{length-sentBytes}
+use Rattle.outgoing.specs.StepLaws.{fits-range, sound-stepOn}
 use Rattle.compressor.specs.ReadyLaws.{sound-most, sound-contextAt, ready-on}
 
 ---- openOf

@@ -17,7 +17,7 @@ use Rattle.context.specs.Sound.{soundCompressor, emptyCompressor}
 use Rattle.context.proofs.CompressorSound.{sound-empty}
 use Rattle.context.specs.declared.compressor.CompressorContext.{CompressorContext}
 use Rattle.compressor.specs.declared.table.Table.{Table}
-use Rattle.compressor.specs.Table.{noContext, contextAt, withContext, isEmpty, soundOf, emptyTable, openOf, openBy}
+use Rattle.compressor.specs.Table.{noContext, contextAt, withContext, isEmpty, soundOf, emptyTable, unopened, openOf, openBy}
 
 ---- soundOf
 
@@ -73,3 +73,7 @@ module _ (t : Table) (n k : ℕ) where
   pub openOf-accepted : openOf t n k .number ≡ 0 → (settings.inRange n k ≡ true) × (openOf t n k .table ≡ emptyTable chosen)
   unfolding openOf settings.openOf
   openOf-accepted e = openBy-accepted (settings.inRange n k) e
+
+pub unsound-unopened : soundOf unopened ≡ false
+unfolding soundOf
+unsound-unopened = refl

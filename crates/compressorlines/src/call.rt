@@ -5,10 +5,9 @@ use crate::answer::put_requested;
 use crate::answer::put_sent;
 use crate::ran::Ran;
 use crate::ran::unknown;
-use compressor::request::request;
-use compressor::send::send;
 use compressor::table::Table;
 use compressor::table::open;
+use request::request;
 use scripting::hex::Decoded;
 use scripting::number::Pair;
 use scripting::number::last_pair;
@@ -17,6 +16,7 @@ use scripting::packet::last_bytes;
 use scripting::packet::packet_at;
 use scripting::room::fill;
 use scripting::word::Word;
+use send::send;
 
 // os N K
 pub fn run_open(t: Table, line: &[u8], w: Word, text: &mut [u8], at: usize) -> Ran

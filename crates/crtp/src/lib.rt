@@ -15,6 +15,19 @@ ghost use Rattle.decompressor.specs.Table as decompressing;
 ghost use Rattle.decompressor.specs.Receive.{receiveOf};
 ghost use Rattle.report.specs.Report.{reportOf};
 
+// The table of a compressor that is not open, to be handed to an opening.
+pub fn no_compressor() -> compressor::table::Table
+    ensures { λ r. ⌜ r ≡ compressing.unopened ⌝ }
+{
+    compressor::table::unopened()
+}
+
+pub fn no_decompressor() -> decompressor::table::Table
+    ensures { λ r. ⌜ r ≡ decompressing.unopened ⌝ }
+{
+    decompressor::table::unopened()
+}
+
 // Opens a compressor for losses of up to n packets in a row and for k flows at a time; refused, the table stays.
 pub fn open_compressor(t: compressor::table::Table, n: u32, k: u32) -> compressor::answer::Answer
     ensures { λ r. ⌜ sending.said r [] ≡ compressing.openOf t n k ⌝ }
@@ -37,14 +50,14 @@ pub fn open_decompressor(
 pub fn send(t: compressor::table::Table, p: &[u8], out: &mut [u8]) -> compressor::answer::Answer
     ensures { λ r. ⌜ sending.said r (now (out .exit)) ≡ sendOf t (now (p .entry)) (now (out .entry)) ⌝ }
 {
-    compressor::send::send(t, p, out)
+    send::send(t, p, out)
 }
 
 // What a report from the other end asks for: the contexts that it names get full headers again.
 pub fn request(t: compressor::table::Table, s: &[u8]) -> compressor::answer::Answer
     ensures { λ r. ⌜ sending.said r [] ≡ requestOf t (now (s .entry)) ⌝ }
 {
-    compressor::request::request(t, s)
+    request::request(t, s)
 }
 
 // The packet that the bytes s, which came off the link with this type, stand for.
@@ -56,7 +69,7 @@ pub fn receive(
 ) -> decompressor::answer::Answer
     ensures { λ r. ⌜ receiving.said r (now (out .exit)) ≡ receiveOf t kind (now (s .entry)) (now (out .entry)) ⌝ }
 {
-    decompressor::receive::receive(t, kind, s, out)
+    receive::receive(t, kind, s, out)
 }
 
 // What is to be sent back of the broken contexts; of none, nothing.

@@ -5,7 +5,4 @@ pub mod Receive
 pub mod ReceiveLaws
 pub mod PacketLaws
 pub mod RangeLaws
-pub mod NarrowLaws
 pub mod ReceiveSound
-pub mod Taken
-pub mod TakenLaws

@@ -57,6 +57,10 @@ soundOf t =
 abbrev pub emptyTable : Settings → Table
 emptyTable s = record { settings = s; contexts = replicate 64 emptyDecompressor }
 
+-- before any opening: no settings have zero contexts, so this table is not sound
+abbrev pub unopened : Table
+unopened = emptyTable (record { repeats = 0; contexts = 0 })
+
 -- an opening: a table with nothing in it, or 1 and the table that was there
 abbrev pub openBy : Table → Opened → Result
 openBy t (opened.Ready s) = accepted (emptyTable s) [] []

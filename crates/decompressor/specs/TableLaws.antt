@@ -17,7 +17,7 @@ use Rattle.context.specs.Sound.{soundDecompressor, soundDecompressorBy, unfille
 use Rattle.context.proofs.DecompressorSound.{sound-none}
 use Rattle.context.specs.declared.decompressor.DecompressorContext.{DecompressorContext}
 use Rattle.decompressor.specs.declared.table.Table.{Table}
-use Rattle.decompressor.specs.Table.{noContext, contextAt, withContext, isEmpty, soundOf, emptyTable, openOf, openBy}
+use Rattle.decompressor.specs.Table.{noContext, contextAt, withContext, isEmpty, soundOf, emptyTable, unopened, openOf, openBy}
 
 ---- soundOf
 
@@ -95,3 +95,7 @@ module _ (t : Table) (n k : ℕ) where
   sound-openOf e =
       let p = openOf-accepted e in
       subst Sound (sym (p .1)) (sound-emptyTable chosen (p .0))
+
+pub unsound-unopened : soundOf unopened ≡ false
+unfolding soundOf
+unsound-unopened = refl

@@ -4,7 +4,7 @@ ghost use lib.ListN.{drop};
 ghost use mathlib.Core.List.{[]};
 ghost use Rattle.context.specs.All.{all};
 ghost use Rattle.context.specs.Sound.{soundDecompressor};
-ghost use Rattle.decompressor.specs.Table.{isEmpty, soundOf, openOf, emptyTable};
+ghost use Rattle.decompressor.specs.Table.{isEmpty, soundOf, emptyTable, unopened, openOf};
 ghost use Rattle.decompressor.specs.Answer.{said};
 use crate::answer::Answer;
 use crate::answer::Outcome;
@@ -80,6 +80,16 @@ fn empty_table(s: Settings) -> Table
         settings: s,
         contexts: [c; 64],
     }
+}
+
+// What there is before an opening: every call on it but an opening is refused.
+pub fn unopened() -> Table
+    ensures { λ r. ⌜ r ≡ unopened ⌝ }
+{
+    empty_table(Settings {
+        repeats: 0,
+        contexts: 0,
+    })
 }
 
 // A table with nothing in it. The settings alone are judged, never the table that was there.

@@ -18,8 +18,8 @@ pub struct Ran {
 // The tables before any opening: calls on them are refused 1.
 pub fn unopened() -> Tables {
     Tables {
-        compressor: compressorlines::ran::unopened(),
-        decompressor: decompressorlines::ran::unopened(),
+        compressor: compressor::table::unopened(),
+        decompressor: decompressor::table::unopened(),
     }
 }
 

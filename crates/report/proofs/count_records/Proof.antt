@@ -2,7 +2,7 @@ use borrow.Author.Needs.{needs}
 use Rattle.report.specs.ReportLaws.{statesBefore, states-all, count-more}
 use Rattle.refresh.specs.Cs.{State}
 use Rattle.decompressor.specs.Table.{noContext}
-use Rattle.decompressor.proofs.Arrays.{length-mapped}
+use Rattle.context.proofs.Arrays.{length-mapped}
 use lib.ListN.{length}
 use mathlib.Core.Path.{_≡_, ap, _∙_}
 use Prim.Native.Nat.{_≤_, _-_}

@@ -4,7 +4,7 @@ use Rattle.refresh.specs.Cs.{recordsBytes}
 use Rattle.context.specs.AllLaws.{all-getD}
 use Rattle.decompressor.specs.TableLaws.{sound-noContext}
 use Rattle.decompressor.specs.Table.{noContext}
-use Rattle.decompressor.proofs.Arrays.{length-mapped}
+use Rattle.context.proofs.Arrays.{length-mapped}
 use Rattle.context.specs.Sound.{soundDecompressor}
 use Rattle.context.specs.All.{all}
 use Rattle.bytes.specs.PutLaws.{wrote-then, wrote-nothing, wrote-length}

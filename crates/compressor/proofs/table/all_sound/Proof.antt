@@ -1,4 +1,4 @@
-use Rattle.compressor.proofs.Arrays.{length-mapped}
+use Rattle.context.proofs.Arrays.{length-mapped}
 use Rattle.compressor.specs.Table.{noContext}
 use Rattle.context.specs.Sound.{soundCompressor}
 use Rattle.context.specs.AllLaws.{all-drop, all-end}

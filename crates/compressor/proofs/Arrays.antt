@@ -1,9 +1,0 @@
--- Iarwennol. The length of an array of structs, which the prover knows of its encoded elements. Assumes nothing.
--- Used by the loops over the contexts.
-use Prim.Native.Nat.{ℕ}
-use mathlib.Core.Path.{_≡_, sym, _∙_}
-use mathlib.Core.List.{List, map}
-use lib.ListN.{length, length-map}
-
-pub length-mapped : (X Y : Type 0) (f : X → Y) (l : List X) (n : ℕ) → length (map f l) ≡ n → length l ≡ n
-length-mapped X Y f l n e = sym (length-map l f) ∙ e

@@ -1,0 +1,4 @@
+pub mod Outgoing
+pub mod Size
+pub mod SizeLaws
+pub mod StepLaws

@@ -1,0 +1,28 @@
+-- Iarwennol. How many bytes go out on a context before the rest of the packet, and what is relied on when they are written.
+-- Used by the send, which computes the exact length before it writes (rule 3.1, refusal 11).
+use Prim.Native.Nat.{ℕ, _≤_, _<_}
+use mathlib.Core.Bool.{not}
+use lib.ListN.{length}
+use Rattle.packet.specs.declared.header.Header.{Header}
+use Rattle.headers.specs.Header.{headerSize}
+use Rattle.headers.specs.Range.{HeaderInRange}
+use Rattle.encode.specs.Size.{cuSize, crSize}
+use Rattle.context.specs.declared.step.Kind.{Kind}
+use Rattle.context.specs.declared.step.Kind.the-variants.{FullHeader, CompressedUdp, CompressedRtp}
+use Rattle.context.specs.declared.step.Step.{Step}
+
+abbrev pub sizeBy : Kind → Header → Step → ℕ
+sizeBy FullHeader h a = headerSize h
+sizeBy CompressedUdp h a = cuSize (not (a .context .blank)) (a .parts)
+sizeBy CompressedRtp h a = crSize (not (a .context .blank)) (a .parts)
+
+unfoldable pub linkSize : Header → Step → ℕ
+linkSize h a = sizeBy (a .kind) h a
+
+-- a step whose numbers fit the bits that the layouts have for them
+pub record Writable (h : Header) (a : Step) : Type 0 where
+  pub header : HeaderInRange h
+  pub sequence : a .link .sequence < 16
+  pub generation : a .link .generation < 64
+  pub list : a .parts .csrc .count ≤ h .csrc .count
+  pub words : a .parts .csrc .count ≤ length (a .parts .csrc .words)

@@ -1,0 +1,83 @@
+-- Iarwennol. Laws of sizes: each is the length of what goes out, and never exceeds that of the packet's header. Assume nothing.
+-- Used by the proofs and the laws of send.
+use Prim.Native.Nat.{ℕ, _+_, _*_, _≤_}
+use mathlib.Core.Path.{_≡_, refl}
+use mathlib.Core.Bool.{Bool, true, false, cond, not}
+use native.Mathlib.Omega.{arith}
+use lib.ListN.{length}
+use Rattle.codes.specs.Code.{codeOf}
+use Rattle.codes.specs.CodeLaws.{length-codeOf}
+use Rattle.packet.specs.declared.header.Header.{Header}
+use Rattle.packet.specs.declared.parts.Parts.{Parts}
+use Rattle.bytes.specs.Put.{optional}
+use Rattle.bytes.specs.PutLaws.{length-optional-le}
+use Rattle.headers.specs.Header.{headerSize}
+use Rattle.headers.specs.HeaderLaws.{length-headerBytes}
+use Rattle.headers.specs.Checksum.{ipChecksum}
+use Rattle.refresh.specs.Fh.{ipField, fhBytes}
+use Rattle.encode.specs.Size.{cuSize, crSize}
+use Rattle.encode.specs.SizeLaws.{length-cuBytes, length-crBytes}
+use Rattle.context.specs.declared.step.Kind.{Kind}
+use Rattle.context.specs.declared.step.Kind.the-variants.{FullHeader, CompressedUdp, CompressedRtp}
+use Rattle.context.specs.declared.step.Step.{Step}
+use Rattle.outgoing.specs.Outgoing.{linkBy, linkBytes}
+use Rattle.outgoing.specs.Size.{sizeBy, linkSize, Writable}
+
+---- linkBytes
+
+module _ (i total : ℕ) (h : Header) (a : Step) (w : Writable h a) where
+  length-fh : length (linkBy FullHeader i total h a) ≡ headerSize h
+  unfolding fhBytes
+  length-fh = length-headerBytes (ipField i (a .link .generation)) (a .link .sequence) (ipChecksum h total) h (w .header)
+
+  length-by : (k : Kind) → length (linkBy k i total h a) ≡ sizeBy k h a
+  length-by FullHeader = length-fh
+  length-by CompressedUdp = length-cuBytes i (a .link .sequence) (not (a .context .blank)) (a .parts) (w .words)
+  length-by CompressedRtp = length-crBytes i (a .link .sequence) (not (a .context .blank)) (a .parts) (w .words)
+
+  pub length-linkBytes : length (linkBytes i total h a) ≡ linkSize h a
+  unfolding linkBytes linkSize
+  length-linkBytes = length-by (a .kind)
+
+---- linkSize
+
+size-if : (w : Bool) (n : ℕ) → cond w n 0 ≤ n
+size-if true n = omega arith
+size-if false n = omega arith
+
+length-delta : (w d : ℕ) (sent : Bool) → length (optional sent (codeOf w d)) ≤ 3
+length-delta w d sent = omega (arith, length-optional-le sent (codeOf w d), length-codeOf d w)
+
+module _ (carried : Bool) (h : Parts) where
+  cuSize-most : cuSize carried h ≤ 40 + 4 * h .csrc .count
+  cuSize-most = omega (
+    arith,
+    size-if carried 2,
+    length-delta 16 (h .did .value) (h .did .sent),
+    length-delta 32 (h .dts .value) (h .dts .sent),
+    size-if (h .id .sent) 2,
+    size-if (h .sequence .sent) 2,
+    size-if (h .timestamp .sent) 4,
+    size-if (h .payload .sent) 1,
+  )
+
+  crSize-most : crSize carried h ≤ 40 + 4 * h .csrc .count
+  crSize-most = omega (
+    arith,
+    size-if carried 2,
+    size-if (h .listed) 1,
+    length-delta 16 (h .did .value) (h .did .sent),
+    length-delta 16 (h .dsn .value) (h .dsn .sent),
+    length-delta 32 (h .dts .value) (h .dts .sent),
+  )
+
+module _ (h : Header) (a : Step) (w : Writable h a) where
+  size-by : (k : Kind) → (1 ≤ sizeBy k h a) × (sizeBy k h a ≤ headerSize h)
+  size-by FullHeader = (omega arith, omega arith)
+  size-by CompressedUdp = (omega arith, omega (arith, cuSize-most (not (a .context .blank)) (a .parts), w .list))
+  size-by CompressedRtp = (omega arith, omega (arith, crSize-most (not (a .context .blank)) (a .parts), w .list))
+
+  -- a link packet is no longer than its packet
+  pub linkSize-most : (1 ≤ linkSize h a) × (linkSize h a ≤ headerSize h)
+  unfolding linkSize
+  linkSize-most = size-by (a .kind)

@@ -1,0 +1,111 @@
+-- Iarwennol. Laws of a packet's step on a context, the first or a later one. Assume nothing.
+-- Used by the proofs and the laws of send.
+use Prim.Native.Nat.{ℕ, zero, suc, _-_, _%_, _≤_}
+use mathlib.Core.Path.{_≡_, refl, sym, ap, _∙_}
+use mathlib.Core.Bool.{Bool, true, false}
+use native.Mathlib.Omega.{arith}
+use borrow.Author.Tests.{le-leb}
+use lib.Dec.{eqb}
+use lib.ListN.{length, replicate}
+use Rattle.packet.specs.Csrc.{noList}
+use Rattle.packet.specs.declared.csrc.Csrc.{Csrc}
+use Rattle.packet.specs.declared.header.Header.{Header}
+use Rattle.headers.specs.Range.{HeaderInRange, ListInRange}
+use Rattle.context.specs.Compressor.{firstStep, stepOf, partsOf, listIf}
+use Rattle.context.specs.Range.{HeaderFits}
+use Rattle.context.specs.Sound.{zeros, soundList, soundLink, soundCompressor}
+use Rattle.context.specs.declared.compressor.Usage.{Usage}
+use Rattle.context.specs.declared.compressor.Usage.the-variants.{Empty, Live}
+use Rattle.context.specs.declared.compressor.CompressorContext.{CompressorContext}
+use Rattle.context.specs.declared.kept.Link.{Link}
+use Rattle.context.specs.declared.step.Step.{Step}
+use Rattle.context.proofs.Tests.{cond-both}
+use Rattle.context.proofs.SoundFacts.{LinkBounds, soundLink-bounds}
+use Rattle.context.proofs.CompressorSound.{sound-first, sound-step}
+use Rattle.context.proofs.PartsLaws.{link-step, list-step}
+use Rattle.outgoing.specs.Outgoing.{stepBy, stepOn}
+use Rattle.outgoing.specs.Size.{Writable}
+
+---- stepOn
+
+-- link sequence and generation of a context's first packet
+abbrev pub firstLink : Link
+firstLink = record { sequence = 0; generation = 0 }
+
+module _ (n : ℕ) (h : Header) (c : CompressorContext) where
+  pub stepOn-empty : c .status ≡ Empty → stepOn n h c ≡ firstStep n h firstLink
+  unfolding stepOn
+  stepOn-empty e = ap (λ (u : Usage). stepBy u n h c) e
+
+  pub stepOn-live : c .status ≡ Live → stepOn n h c ≡ stepOf n h c
+  unfolding stepOn
+  stepOn-live e = ap (λ (u : Usage). stepBy u n h c) e
+
+  -- what holds of a first step and of a later one holds of both
+  pub stepOn-either : (P : Step → Type 0) → P (firstStep n h firstLink) → (c .status ≡ Live → P (stepOf n h c)) → P (stepOn n h c)
+  unfolding stepOn
+  stepOn-either P a b = by (c .status) refl
+    where
+      by : (u : Usage) → c .status ≡ u → P (stepBy u n h c)
+      by Empty e = a
+      by Live e = b e
+
+---- Writable
+
+-- the list of the packet, sent or not
+list-fits : (any : Bool) (l : Csrc) → l .count ≤ length (l .words)
+    → (listIf any l .count ≤ l .count) × (listIf any l .count ≤ length (listIf any l .words))
+unfolding listIf
+list-fits any l f = cond-both (λ (x : Csrc). (x .count ≤ l .count) × (x .count ≤ length (x .words))) any l noList (omega arith, f) (omega arith, omega arith)
+
+module _ (n : ℕ) (h : Header) (r : HeaderInRange h) where
+  list-of : (any : Bool) → (listIf any (h .csrc) .count ≤ h .csrc .count) × (listIf any (h .csrc) .count ≤ length (listIf any (h .csrc) .words))
+  list-of any = list-fits any (h .csrc) (omega (arith, r .csrc .count, r .csrc .size))
+
+  writable-first : Writable h (firstStep n h firstLink)
+  unfolding firstStep partsOf
+  writable-first = let l = list-of false in record { header = r; sequence = omega arith; generation = omega arith; list = l .0; words = l .1 }
+
+  writable-from : (a : Step) → LinkBounds (a .link) → a .parts .csrc ≡ listIf (a .parts .listed) (h .csrc) → Writable h a
+  writable-from a b e =
+      let l = list-of (a .parts .listed) in
+      record { header = r; sequence = omega (arith, b .sequence); generation = omega (arith, b .generation); list = rw e (l .0); words = rw e (l .1) }
+
+  writable-live : (c : CompressorContext) → soundCompressor n c ≡ true → c .status ≡ Live → Writable h (stepOf n h c)
+  writable-live c s u = writable-from (stepOf n h c) (soundLink-bounds (stepOf n h c .link) (link-step n h c u s)) (list-step n h c)
+
+  -- what a sound context sends can be written
+  pub writable-stepOn : (c : CompressorContext) → soundCompressor n c ≡ true → Writable h (stepOn n h c)
+  writable-stepOn c s = stepOn-either n h c (λ a. Writable h a) writable-first (writable-live c s)
+
+---- soundCompressor
+
+zeros-replicate : (n : ℕ) → zeros (replicate n 0) ≡ true
+zeros-replicate zero = refl
+zeros-replicate (suc n) = zeros-replicate n
+
+soundList-range : (l : Csrc) → ListInRange l → soundList l ≡ true
+unfolding soundList
+soundList-range l r = rw (le-leb (l .count) 15 (r .count), r .blank) (zeros-replicate (15 - l .count))
+
+-- a header that was read from bytes is one that a context may keep
+pub fits-range : {h : Header} → HeaderInRange h → HeaderFits h
+fits-range {h} r = record {
+  flags = omega (arith, r .ip .flags);
+  id = r .ip .id;
+  payload = omega (arith, r .rtp .payload);
+  sequence = r .rtp .sequence;
+  timestamp = r .rtp .timestamp;
+  list = soundList-range (h .csrc) (r .csrc);
+  words = r .csrc .size;
+  checksum = r .checksum;
+}
+
+module _ (n : ℕ) (h : Header) (f : HeaderFits h) (even : eqb (h .flow .dport % 2) 0 ≡ true) where
+  sound-firstStep : soundCompressor n (firstStep n h firstLink .context) ≡ true
+  unfolding firstStep soundLink
+  sound-firstStep = sound-first n h firstLink f even refl
+
+  -- a sound context stays sound
+  pub sound-stepOn : (c : CompressorContext) → soundCompressor n c ≡ true → soundCompressor n (stepOn n h c .context) ≡ true
+  sound-stepOn c s = stepOn-either n h c (λ a. soundCompressor n (a .context) ≡ true) sound-firstStep (λ live. sound-step n h c f live s)

@@ -1,0 +1,57 @@
+ghost use mathlib.Core.Path.{_≡_};
+ghost use Prim.Native.Nat.{_≤_};
+ghost use lib.ListN.{length};
+ghost use Rattle.bytes.specs.Put.{Wrote};
+ghost use Rattle.outgoing.specs.Outgoing.{kindNumber, linkBytes};
+ghost use Rattle.outgoing.specs.Size.{linkSize, Writable};
+use context::step::Kind;
+use context::step::Step;
+use encode::cr::cr_size;
+use encode::cr::put_cr;
+use encode::cu::cu_size;
+use encode::cu::put_cu;
+use packet::header::Header;
+use refresh::fh::fh_size;
+use refresh::fh::put_fh;
+
+// The number that goes with the bytes.
+pub fn kind_number(k: Kind) -> u8
+    ensures { λ r. ⌜ r ≡ kindNumber k ⌝ }
+{
+    match k {
+        Kind::FullHeader => 1,
+        Kind::CompressedUdp => 2,
+        Kind::CompressedRtp => 3,
+    }
+}
+
+// How many bytes go out before the rest of the packet.
+pub fn link_size(h: Header, a: Step) -> usize
+    requires { ⌜ Writable h a ⌝ }
+    ensures { λ r. ⌜ (r ≡ linkSize h a) × (r ≤ 100) ⌝ }
+{
+    let carried = !a.context.blank;
+    let parts = a.parts;
+    let k = a.kind;
+    match k {
+        Kind::FullHeader => fh_size(h),
+        Kind::CompressedUdp => cu_size(carried, parts),
+        Kind::CompressedRtp => cr_size(carried, parts),
+    }
+}
+
+// The bytes that go out on context i before the rest of a packet of total bytes.
+pub fn put_link(out: &mut [u8], i: u8, total: u16, h: Header, a: Step) -> usize
+    requires { ⌜ Writable h a × (linkSize h a ≤ length (now out)) ⌝ }
+    ensures { λ r. ⌜ Wrote (now (out .entry)) (now (out .exit)) 0 r (linkBytes i total h a) ⌝ }
+{
+    let carried = !a.context.blank;
+    let parts = a.parts;
+    let link = a.link;
+    let k = a.kind;
+    match k {
+        Kind::FullHeader => put_fh(out, 0, i, link.generation, link.sequence, total, h),
+        Kind::CompressedUdp => put_cu(out, 0, i, link.sequence, carried, parts),
+        Kind::CompressedRtp => put_cr(out, 0, i, link.sequence, carried, parts),
+    }
+}

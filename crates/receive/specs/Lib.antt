@@ -1,0 +1,3 @@
+pub mod NarrowLaws
+pub mod Taken
+pub mod TakenLaws

@@ -1,0 +1,30 @@
+-- Iarwennol. An arrival on a copy of its context, apart from the table that holds it.
+-- Used by the contracts of the functions that work on such a copy; receive_compressed stores it back.
+use Prim.Native.Nat.{ℕ, _≤_, _<_}
+use mathlib.Core.Path.{_≡_}
+use mathlib.Core.Bool.{true}
+use mathlib.Core.List.{List}
+use lib.ListN.{length}
+use Rattle.links.specs.declared.head.Head.{Head}
+use Rattle.context.specs.Sound.{soundDecompressor}
+use Rattle.context.specs.declared.decompressor.DecompressorContext.{DecompressorContext}
+use Rattle.decompressor.specs.declared.table.Table.{Table}
+use Rattle.receive.specs.declared.settle.Taken.{Taken}
+use Rattle.decompressor.specs.Answer.{Result, numberOf, lengthOf}
+use Rattle.decompressor.specs.Table.{contextAt, withContext}
+
+-- what became of a packet, with the output that it left, and the context set into a table at place i
+abbrev pub placed : Taken → Table → (i : ℕ) → (output : List ℕ) → Result
+placed x t i output = record { number = numberOf (x .outcome); length = lengthOf (x .outcome); output = output; table = withContext t i (x .context) }
+
+-- whatever the table: where it has n repeats and the context c at place i, that is what f makes of it
+pub record Takes (n : ℕ) (c : DecompressorContext) (x : Taken) (output : List ℕ) (f : Table → ℕ → Result) : Type 0 where
+  pub anywhere : (t : Table) (i : ℕ) → t .settings .repeats ≡ n → contextAt t i ≡ c → placed x t i output ≡ f t i
+
+-- what is known once the flag byte h of the bytes s was read: n repeats, and the context c of a sound table
+pub record Ready (n : ℕ) (c : DecompressorContext) (h : Head) (s : List ℕ) : Type 0 where
+  pub few : n ≤ 14
+  pub sound : soundDecompressor c ≡ true
+  pub link : h .flags .low < 16
+  pub within : h .place .cursor .at ≤ length s
+  pub short : length s ≤ 1500

@@ -1,0 +1,194 @@
+-- Iarwennol. Laws of an arrival on a copy of its context: the copy, stored back as it was, leaves the table. Assume nothing.
+-- Used by the functions that work on such a copy.
+use Prim.Native.Nat.{ℕ, zero, suc, _+_, _≤_, _<_}
+use mathlib.Core.Path.{_≡_, refl, sym, ap, _∙_}
+use mathlib.Core.Bool.{Bool, true, false, cond, false≢true}
+use mathlib.Core.List.{List, [], _∷_}
+use native.Mathlib.Omega.{arith}
+use borrow.Author.Tests.{lt-ltb, le-ltb}
+use lib.Dec.{eqb, ltb}
+use lib.ListN.{length, getD, set}
+use Rattle.bytes.specs.Put.{fronted}
+use Rattle.headers.specs.Header.{headerSize}
+use Rattle.links.specs.declared.head.Head.{Head}
+use Rattle.links.specs.declared.head.ReadParts.{ReadParts}
+use Rattle.links.specs.declared.whole.ReadWhole.{ReadWhole}
+use Rattle.links.specs.Head.{headOf}
+use Rattle.links.specs.HeadLaws.{headOf-low, headOf-within}
+use Rattle.links.specs.Cu.{cuOf}
+use Rattle.links.specs.Cr.{crOf}
+use Rattle.links.specs.Whole.{wholeOf}
+use Rattle.context.specs.Refusal as refusal
+use Rattle.context.specs.declared.refusal.Refusal.{Refusal}
+use Rattle.context.specs.declared.refusal.Refusal.the-variants.{NotLive, TooLong, NoRoom}
+use Rattle.context.specs.Decompressor.{broke, rebuilt, applied, appliedWhole}
+use Rattle.context.specs.declared.decompressor.Status.{Status}
+use Rattle.context.specs.declared.decompressor.Status.the-variants.{Empty, Live, Broken}
+use Rattle.context.specs.declared.decompressor.DecompressorContext.{DecompressorContext}
+use Rattle.decompressor.specs.declared.answer.Outcome.the-variants.{Accepted, Refused}
+use Rattle.decompressor.specs.declared.table.Table.{Table}
+use Rattle.receive.specs.declared.settle.Taken.{Taken}
+use Rattle.decompressor.specs.Answer.{Result, accepted, refused, delivered}
+use Rattle.decompressor.specs.Table.{noContext, contextAt, withContext}
+use Rattle.decompressor.specs.Receive.{packetOf, rebuildTo, settleRead, receiveParts, receiveWhole, oldForm, receiveUdp, receiveRtp, receiveOn}
+use Rattle.decompressor.specs.TableLaws.{Sound, sound-repeats, sound-contextAt}
+use Rattle.receive.specs.Taken.{placed, Takes, Ready}
+
+---- withContext
+
+set-getD : {A : Type 0} (l : List A) (i : ℕ) (d : A) → set l i (getD l i d) ≡ l
+set-getD [] i d = refl
+set-getD (x ∷ xs) zero d = refl
+set-getD {A} (x ∷ xs) (suc i) d = ap (λ (r : List A). x ∷ r) (set-getD xs i d)
+
+pub withContext-same : (t : Table) (i : ℕ) (c : DecompressorContext) → contextAt t i ≡ c → withContext t i c ≡ t
+withContext-same t i c e = ap (withContext t i) (sym e) ∙ (λ j. record { settings = t .settings; contexts = set-getD (t .contexts) i noContext j })
+
+---- Takes
+
+module _ (n : ℕ) (c : DecompressorContext) (output : List ℕ) where
+  -- refused, with the context as it was
+  pub takes-refused : (r : Refusal) → Takes n c (record { outcome = Refused r; context = c }) output (λ t i. refused t (refusal.numberOf r) output)
+  takes-refused r = record { anywhere = λ t i e f. ap (λ (u : Table). refused u (refusal.numberOf r) output) (withContext-same t i c f) }
+
+  -- refused, and the context left otherwise
+  pub takes-broken : (r : Refusal) (d : DecompressorContext)
+      → Takes n c (record { outcome = Refused r; context = d }) output (λ t i. refused (withContext t i d) (refusal.numberOf r) output)
+  takes-broken r d = record { anywhere = λ t i e f. refl }
+
+  -- accepted: the bytes are at the front of the output
+  pub takes-accepted : (d : DecompressorContext) (m : ℕ) (bytes after : List ℕ) → m ≡ length bytes → after ≡ fronted output bytes
+      → Takes n c (record { outcome = Accepted m; context = d }) after (λ t i. accepted (withContext t i d) bytes output)
+  takes-accepted d m bytes after e w = record { anywhere = λ t i x y. λ j. record { number = 0; length = e j; output = w j; table = withContext t i d } }
+
+---- rebuildTo
+
+-- a result of so many bytes, that is judged by total
+module _ (n : ℕ) (before c : DecompressorContext) (bytes output : List ℕ) (total : ℕ) where
+  abbrev made : Table → ℕ → Result
+  made t i = cond (ltb 1500 total) (refused t 10 output) (delivered t (withContext t i c) bytes output)
+
+  made-long : 1500 < total → Takes n before (record { outcome = Refused TooLong; context = before }) output (λ t i. made t i)
+  made-long h = rw (lt-ltb 1500 total h) (takes-refused n before output TooLong)
+
+  module _ (h : total ≤ 1500) where
+    made-noRoom : length output < length bytes → Takes n before (record { outcome = Refused NoRoom; context = before }) output (λ t i. made t i)
+    made-noRoom r = rw (le-ltb 1500 total h, lt-ltb (length output) (length bytes) r) (takes-refused n before output NoRoom)
+
+    made-accepted : (m : ℕ) (after : List ℕ) → length bytes ≤ length output → m ≡ length bytes → after ≡ fronted output bytes
+        → Takes n before (record { outcome = Accepted m; context = c }) after (λ t i. made t i)
+    made-accepted m after r f w = rw (le-ltb 1500 total h, le-ltb (length output) (length bytes) r) (takes-accepted n before output c m bytes after f w)
+
+-- size: how long the packet is
+module _ (n : ℕ) (before c : DecompressorContext) (sent : ℕ) (rest output : List ℕ) (size : ℕ) (e : size ≡ headerSize (rebuilt c sent) + length rest) where
+  pub rebuildTo-long : 1500 < size → Takes n before (record { outcome = Refused TooLong; context = before }) output (λ t i. rebuildTo t i c sent rest output)
+  rebuildTo-long h = made-long n before c (packetOf (rebuilt c sent) rest) output (headerSize (rebuilt c sent) + length rest) (omega arith)
+
+  module _ (h : size ≤ 1500) (f : size ≡ length (packetOf (rebuilt c sent) rest)) where
+    pub rebuildTo-noRoom : length output < size
+        → Takes n before (record { outcome = Refused NoRoom; context = before }) output (λ t i. rebuildTo t i c sent rest output)
+    rebuildTo-noRoom r = made-noRoom n before c (packetOf (rebuilt c sent) rest) output (headerSize (rebuilt c sent) + length rest) (omega arith) (rw (← f) r)
+
+    pub rebuildTo-accepted : (after : List ℕ) → size ≤ length output → after ≡ fronted output (packetOf (rebuilt c sent) rest)
+        → Takes n before (record { outcome = Accepted size; context = c }) after (λ t i. rebuildTo t i c sent rest output)
+    rebuildTo-accepted after r w =
+        made-accepted n before c (packetOf (rebuilt c sent) rest) output (headerSize (rebuilt c sent) + length rest) (omega arith) size after (rw (← f) r) f w
+
+---- Ready
+
+pub ready-head : (t : Table) (i : ℕ) (s : List ℕ) → Sound t → 1 ≤ length s → length s ≤ 1500 → Ready (t .settings .repeats) (contextAt t i) (headOf s) s
+ready-head t i s sound some few = record {
+  few = sound-repeats t sound;
+  sound = sound-contextAt t i sound;
+  link = headOf-low s;
+  within = headOf-within s some;
+  short = few;
+}
+
+---- the context's status
+
+abbrev pub notLive : Status → Bool
+notLive Empty = true
+notLive Live = false
+notLive Broken = true
+
+---- receiveParts, oldForm: the repeats and the context are those of the table
+
+module _ (n : ℕ) (c : DecompressorContext) (x : Taken) (after s output : List ℕ) where
+  pub takes-parts : (q : ℕ) (r : ReadParts)
+      → ((m : ℕ) → Takes m c x after (λ t i. settleRead (r .place) (applied n q c (r .parts)) t i (r .parts .checksum) s output))
+      → Takes n c x after (λ t i. receiveParts r t i q s output)
+  takes-parts q r h = record {
+    anywhere = λ t i e f. h n .anywhere t i e f ∙ sym (λ j. settleRead (r .place) (applied (e j) q (f j) (r .parts)) t i (r .parts .checksum) s output);
+  }
+
+  takes-wholeParts : (q : ℕ) (r : ReadWhole)
+      → ((m : ℕ) → Takes m c x after (λ t i. settleRead (r .place) (appliedWhole n q c (r .parts) (r .header)) t i (r .parts .checksum) s output))
+      → Takes n c x after (λ t i. receiveWhole r t i q s output)
+  takes-wholeParts q r h = record {
+    anywhere = λ t i e f. h n .anywhere t i e f
+        ∙ sym (λ j. settleRead (r .place) (appliedWhole (e j) q (f j) (r .parts) (r .header)) t i (r .parts .checksum) s output);
+  }
+
+  pub takes-whole : (h : Head) (r : ReadWhole) → r ≡ wholeOf s (h .place) (h .flags) (c .carried)
+      → ((m : ℕ) → Takes m c x after (λ t i. settleRead (r .place) (appliedWhole n (h .flags .low) c (r .parts) (r .header)) t i (r .parts .checksum) s output))
+      → Takes n c x after (λ t i. oldForm t i h s output)
+  unfolding oldForm
+  takes-whole h r w k = record {
+    anywhere = λ t i e f. takes-wholeParts (h .flags .low) r k .anywhere t i e f
+        ∙ ap (λ (y : ReadWhole). receiveWhole y t i (h .flags .low) s output) w
+        ∙ sym (λ j. receiveWhole (wholeOf s (h .place) (h .flags) (f j .carried)) t i (h .flags .low) s output);
+  }
+
+  module _ (h : Head) where
+    pub takes-udp : h .flags .a ≡ true → Takes n c x after (λ t i. receiveParts (cuOf s (h .place) (h .flags) (c .carried)) t i (h .flags .low) s output)
+        → Takes n c x after (λ t i. receiveUdp oldForm t i h s output)
+    takes-udp g k = record {
+      anywhere = λ t i e f. k .anywhere t i e f
+          ∙ sym (λ j. cond (g j) (receiveParts (cuOf s (h .place) (h .flags) (f j .carried)) t i (h .flags .low) s output) (oldForm t i h s output));
+    }
+
+    pub takes-old : h .flags .a ≡ false → Takes n c x after (λ t i. oldForm t i h s output) → Takes n c x after (λ t i. receiveUdp oldForm t i h s output)
+    takes-old g k = record {
+      anywhere = λ t i e f. k .anywhere t i e f
+          ∙ sym (λ j. cond (g j) (receiveParts (cuOf s (h .place) (h .flags) (contextAt t i .carried)) t i (h .flags .low) s output) (oldForm t i h s output));
+    }
+
+    pub takes-rtp : Takes n c x after (λ t i. receiveParts (crOf s (h .place) (h .flags) (c .carried)) t i (h .flags .low) s output)
+        → Takes n c x after (λ t i. receiveRtp oldForm t i h s output)
+    takes-rtp k = record {
+      anywhere = λ t i e f. k .anywhere t i e f ∙ sym (λ j. receiveParts (crOf s (h .place) (h .flags) (f j .carried)) t i (h .flags .low) s output);
+    }
+
+    ---- receiveOn: by the context's status, then by type
+
+    module _ (kind : ℕ) where
+      on-live : c .status ≡ Live → (t : Table) (i : ℕ)
+          → receiveOn oldForm (c .status) kind t i h s output ≡ cond (eqb kind 2) (receiveUdp oldForm t i h s output) (receiveRtp oldForm t i h s output)
+      on-live g t i = ap (λ (u : Status). receiveOn oldForm u kind t i h s output) g
+
+      pub takes-liveUdp : c .status ≡ Live → eqb kind 2 ≡ true → Takes n c x after (λ t i. receiveUdp oldForm t i h s output)
+          → Takes n c x after (λ t i. receiveOn oldForm (c .status) kind t i h s output)
+      takes-liveUdp g b k = record {
+        anywhere = λ t i e f. k .anywhere t i e f
+            ∙ sym (on-live g t i ∙ ap (λ (y : Bool). cond y (receiveUdp oldForm t i h s output) (receiveRtp oldForm t i h s output)) b);
+      }
+
+      pub takes-liveRtp : c .status ≡ Live → eqb kind 2 ≡ false → Takes n c x after (λ t i. receiveRtp oldForm t i h s output)
+          → Takes n c x after (λ t i. receiveOn oldForm (c .status) kind t i h s output)
+      takes-liveRtp g b k = record {
+        anywhere = λ t i e f. k .anywhere t i e f
+            ∙ sym (on-live g t i ∙ ap (λ (y : Bool). cond y (receiveUdp oldForm t i h s output) (receiveRtp oldForm t i h s output)) b);
+      }
+
+-- a context that is not live is left broken
+module _ (n kind : ℕ) (c : DecompressorContext) (h : Head) (s output : List ℕ) where
+  notLive-by : (u : Status) → notLive u ≡ true → (t : Table) (i : ℕ)
+      → receiveOn oldForm u kind t i h s output ≡ refused (withContext t i (broke (contextAt t i))) 8 output
+  notLive-by Empty g t i = refl
+  notLive-by Broken g t i = refl
+  notLive-by Live g t i = absurd (false≢true g)
+
+  pub takes-notLive : notLive (c .status) ≡ true
+      → Takes n c (record { outcome = Refused NotLive; context = broke c }) output (λ t i. receiveOn oldForm (c .status) kind t i h s output)
+  takes-notLive g = record { anywhere = λ t i e f. sym (notLive-by (c .status) g t i ∙ (λ j. refused (withContext t i (broke (f j))) 8 output)) }

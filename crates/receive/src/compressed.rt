@@ -1,0 +1,140 @@
+ghost use mathlib.Core.Path.{_≡_};
+ghost use mathlib.Core.Bool.{true};
+ghost use Prim.Native.Nat.{_≤_, _<_};
+ghost use lib.ListN.{length};
+ghost use Rattle.links.specs.Range.{PartsSound};
+ghost use Rattle.context.specs.Sound.{soundDecompressor};
+ghost use Rattle.decompressor.specs.Answer.{said};
+ghost use Rattle.decompressor.specs.TableLaws.{Sound};
+ghost use Rattle.decompressor.specs.Receive.{receiveParts, oldForm, receiveUdp, receiveRtp, receiveOn, receiveCompressed};
+ghost use Rattle.receive.specs.Taken.{Takes, Ready};
+use crate::settle::Taken;
+use crate::settle::settle_read;
+use context::decompressor::DecompressorContext;
+use context::decompressor::Status;
+use context::refusal::Refusal;
+use decompressor::answer::Answer;
+use decompressor::answer::Outcome;
+use decompressor::table::Table;
+use fields::place::is_good;
+use links::cr::read_cr;
+use links::cu::read_cu;
+use links::head::Head;
+use links::head::ReadParts;
+use links::head::read_head;
+use links::whole::read_cu_whole;
+use rebuild::apply::apply;
+use rebuild::apply::apply_whole;
+use rebuild::apply::break_context;
+
+// The parts of a CR, or of a CU with F, that has the link sequence q.
+fn receive_parts(
+    n: u8,
+    q: u8,
+    c: DecompressorContext,
+    x: ReadParts,
+    s: &[u8],
+    out: &mut [u8],
+) -> Taken
+    requires { ⌜ (n ≤ 14) × (q < 16) × (soundDecompressor c ≡ true) × PartsSound (x .parts) × (x .place .cursor .at ≤ length (now s)) × (length (now s) ≤ 1500) ⌝ }
+    ensures { λ r. ⌜ Takes n c r (now (out .exit)) (λ t i. receiveParts x t i q (now (s .entry)) (now (out .entry))) ⌝ }
+{
+    let p = x.parts;
+    let place = x.place;
+    let a = apply(n, q, c, p);
+    settle_read(c, place, a, p.checksum, s, out)
+}
+
+// A CU without F. It is a function of its own, since how this form is taken may be changed.
+pub fn receive_whole(n: u8, c: DecompressorContext, h: Head, s: &[u8], out: &mut [u8]) -> Taken
+    requires { ⌜ Ready n c h (now s) ⌝ }
+    ensures { λ r. ⌜ Takes n c r (now (out .exit)) (λ t i. oldForm t i h (now (s .entry)) (now (out .entry))) ⌝ }
+{
+    let f = h.flags;
+    let x = read_cu_whole(s, h.place, f, c.carried);
+    let p = x.parts;
+    let w = x.header;
+    let place = x.place;
+    let a = apply_whole(n, f.low, c, p, w);
+    settle_read(c, place, a, p.checksum, s, out)
+}
+
+fn receive_udp(n: u8, c: DecompressorContext, h: Head, s: &[u8], out: &mut [u8]) -> Taken
+    requires { ⌜ Ready n c h (now s) ⌝ }
+    ensures { λ r. ⌜ Takes n c r (now (out .exit)) (λ t i. receiveUdp oldForm t i h (now (s .entry)) (now (out .entry))) ⌝ }
+{
+    let f = h.flags;
+    if f.a {
+        let x = read_cu(s, h.place, f, c.carried);
+        return receive_parts(n, f.low, c, x, s, out);
+    }
+    receive_whole(n, c, h, s, out)
+}
+
+fn receive_rtp(n: u8, c: DecompressorContext, h: Head, s: &[u8], out: &mut [u8]) -> Taken
+    requires { ⌜ Ready n c h (now s) ⌝ }
+    ensures { λ r. ⌜ Takes n c r (now (out .exit)) (λ t i. receiveRtp oldForm t i h (now (s .entry)) (now (out .entry))) ⌝ }
+{
+    let f = h.flags;
+    let x = read_cr(s, h.place, f, c.carried);
+    receive_parts(n, f.low, c, x, s, out)
+}
+
+// The status is taken apart before any field is read: only a live context has a link sequence to count from.
+fn receive_on(kind: u32, n: u8, c: DecompressorContext, h: Head, s: &[u8], out: &mut [u8]) -> Taken
+    requires { ⌜ Ready n c h (now s) ⌝ }
+    ensures { λ r. ⌜ Takes n c r (now (out .exit)) (λ t i. receiveOn oldForm (c .status) kind t i h (now (s .entry)) (now (out .entry))) ⌝ }
+{
+    let status = c.status;
+    match status {
+        Status::Empty => Taken {
+            outcome: Outcome::Refused(Refusal::NotLive),
+            context: break_context(c),
+        },
+        Status::Live => {
+            if kind == 2 {
+                return receive_udp(n, c, h, s, out);
+            }
+            receive_rtp(n, c, h, s, out)
+        }
+        Status::Broken => Taken {
+            outcome: Outcome::Refused(Refusal::NotLive),
+            context: break_context(c),
+        },
+    }
+}
+
+// A CU or CR: its context is copied out once and stored back once.
+pub fn receive_compressed(kind: u32, t: Table, s: &[u8], out: &mut [u8]) -> Answer
+    requires { ⌜ Sound t × (1 ≤ length (now s)) × (length (now s) ≤ 1500) ⌝ }
+    ensures { λ r. ⌜ said r (now (out .exit)) ≡ receiveCompressed oldForm kind t (now (s .entry)) (now (out .entry)) ⌝ }
+{
+    let settings = t.settings;
+    let number = s[0];
+    if settings.contexts <= number {
+        return Answer {
+            outcome: Outcome::Refused(Refusal::NoSuchContext),
+            table: t,
+        };
+    }
+    let h = read_head(s);
+    let place = h.place;
+    let o = place.outcome;
+    if !is_good(o) {
+        return Answer {
+            outcome: Outcome::Refused(Refusal::Cut),
+            table: t,
+        };
+    }
+    let i = number as usize;
+    let c = t.contexts[i];
+    let x = receive_on(kind, settings.repeats, c, h, s, out);
+    let outcome = x.outcome;
+    let after = x.context;
+    let mut next = t;
+    next.contexts[i] = after;
+    Answer {
+        outcome: outcome,
+        table: next,
+    }
+}

@@ -1,0 +1,70 @@
+ghost use mathlib.Core.Path.{_≡_};
+ghost use Prim.Native.Nat.{_≤_};
+ghost use lib.ListN.{length, drop};
+ghost use Rattle.refresh.specs.Fh.{fhJudged, fhOf};
+ghost use Rattle.refresh.specs.declared.judgement.Judgement.the-variants.{Good};
+ghost use Rattle.decompressor.specs.Answer.{said, delivered};
+ghost use Rattle.decompressor.specs.TableLaws.{Sound};
+ghost use Rattle.decompressor.specs.Receive.{packetOf, fullTable, receiveFull};
+use crate::output::put_packet;
+use context::kept::Link;
+use context::refusal::Refusal;
+use decompressor::answer::Answer;
+use decompressor::answer::Outcome;
+use decompressor::table::Table;
+use rebuild::full::fill;
+use refresh::fh::judge_fh;
+use refresh::fh::read_fh;
+use refresh::judgement::Judgement;
+
+// A full header that was judged good. The packet is as long as it, since only what stands in two fields differs.
+fn accept_full(t: Table, s: &[u8], out: &mut [u8]) -> Answer
+    requires { ⌜ Sound t × (fhJudged (t .settings .contexts) (now s) ≡ Good) × (length (now s) ≤ 1500) ⌝ }
+    ensures { λ r. ⌜ said r (now (out .exit)) ≡ delivered t (fullTable t (fhOf (now (s .entry)))) (packetOf (fhOf (now (s .entry)) .header) (drop (fhOf (now (s .entry)) .start) (now (s .entry)))) (now (out .entry)) ⌝ }
+{
+    let size = s.len();
+    if out.len() < size {
+        return Answer {
+            outcome: Outcome::Refused(Refusal::NoRoom),
+            table: t,
+        };
+    }
+    let f = read_fh(s);
+    let h = f.header;
+    let start = f.start;
+    put_packet(out, h, &s[start..], size);
+    let link = Link {
+        sequence: f.link,
+        generation: f.generation,
+    };
+    let c = fill(h, link);
+    let i = f.context as usize;
+    let mut next = t;
+    next.contexts[i] = c;
+    Answer {
+        outcome: Outcome::Accepted(size),
+        table: next,
+    }
+}
+
+pub fn receive_full(t: Table, s: &[u8], out: &mut [u8]) -> Answer
+    requires { ⌜ Sound t × (length (now s) ≤ 1500) ⌝ }
+    ensures { λ r. ⌜ said r (now (out .exit)) ≡ receiveFull t (now (s .entry)) (now (out .entry)) ⌝ }
+{
+    let settings = t.settings;
+    match judge_fh(settings.contexts, s) {
+        Judgement::Good => { accept_full(t, s, out) }
+        Judgement::Cut => Answer {
+            outcome: Outcome::Refused(Refusal::Cut),
+            table: t,
+        },
+        Judgement::Forbidden => Answer {
+            outcome: Outcome::Refused(Refusal::Forbidden),
+            table: t,
+        },
+        Judgement::NoSuchContext => Answer {
+            outcome: Outcome::Refused(Refusal::NoSuchContext),
+            table: t,
+        },
+    }
+}

@@ -1,0 +1,111 @@
+ghost use mathlib.Core.Path.{_≡_};
+ghost use Prim.Native.Nat.{ℕ, _≤_};
+ghost use lib.ListN.{length};
+ghost use Rattle.headers.specs.Range.{Narrow};
+ghost use Rattle.context.specs.Decompressor.{rebuilt};
+ghost use Rattle.context.specs.declared.decompressor.Outcome.the-variants.{Accepted};
+ghost use Rattle.decompressor.specs.Receive.{rebuildTo, settle, settleRead};
+ghost use Rattle.receive.specs.Taken.{Takes};
+use crate::output::packet_size;
+use crate::output::put_packet;
+use context::decompressor::Applied;
+use context::decompressor::DecompressorContext;
+use context::refusal::Refusal;
+use decompressor::answer::Outcome;
+use fields::place::Place;
+use rebuild::header::rebuild;
+
+// What became of a link packet on its context, and the context that it leaves: as it was, moved on, or broken.
+//
+// The functions here work on a copy of the context, so that no table is handed about.
+pub struct Taken {
+    pub outcome: Outcome,
+    pub context: DecompressorContext,
+}
+
+// A packet that its context accepted, which is moved on only where the packet could be given out.
+pub fn rebuild_to(
+    before: DecompressorContext,
+    c: DecompressorContext,
+    sent: u16,
+    rest: &[u8],
+    out: &mut [u8],
+) -> Taken
+    requires { ⌜ Narrow (rebuilt c sent) × (length (now rest) ≤ 1500) ⌝ }
+    ensures { λ r. ⌜ ((n : ℕ) → Takes n before r (now (out .exit)) (λ t i. rebuildTo t i c sent (now (rest .entry)) (now (out .entry)))) ⌝ }
+{
+    let h = rebuild(c, sent);
+    let size = packet_size(h, rest);
+    if 1500 < size {
+        return Taken {
+            outcome: Outcome::Refused(Refusal::TooLong),
+            context: before,
+        };
+    }
+    if out.len() < size {
+        return Taken {
+            outcome: Outcome::Refused(Refusal::NoRoom),
+            context: before,
+        };
+    }
+    put_packet(out, h, rest, size);
+    Taken {
+        outcome: Outcome::Accepted(size),
+        context: c,
+    }
+}
+
+// What its context made of a packet. A context that refused it is left broken.
+pub fn settle(
+    before: DecompressorContext,
+    a: Applied,
+    sent: u16,
+    rest: &[u8],
+    out: &mut [u8],
+) -> Taken
+    requires { ⌜ (a .outcome ≡ Accepted → Narrow (rebuilt (a .context) sent)) × (length (now rest) ≤ 1500) ⌝ }
+    ensures { λ r. ⌜ ((n : ℕ) → Takes n before r (now (out .exit)) (λ t i. settle a t i sent (now (rest .entry)) (now (out .entry)))) ⌝ }
+{
+    let o = a.outcome;
+    let c = a.context;
+    match o {
+        context::decompressor::Outcome::Accepted => { rebuild_to(before, c, sent, rest, out) }
+        context::decompressor::Outcome::Refused(why) => Taken {
+            outcome: Outcome::Refused(why),
+            context: c,
+        },
+    }
+}
+
+// The fields of a packet, read to a place. Where they were refused, what the context would make of them is not looked at.
+pub fn settle_read(
+    before: DecompressorContext,
+    p: Place,
+    a: Applied,
+    sent: u16,
+    s: &[u8],
+    out: &mut [u8],
+) -> Taken
+    requires { ⌜ (a .outcome ≡ Accepted → Narrow (rebuilt (a .context) sent)) × (p .cursor .at ≤ length (now s)) × (length (now s) ≤ 1500) ⌝ }
+    ensures { λ r. ⌜ ((n : ℕ) → Takes n before r (now (out .exit)) (λ t i. settleRead p a t i sent (now (s .entry)) (now (out .entry)))) ⌝ }
+{
+    let o = p.outcome;
+    match o {
+        fields::place::Outcome::Good => {
+            let start = p.cursor.at;
+            settle(before, a, sent, &s[start..], out)
+        }
+        fields::place::Outcome::Cut => Taken {
+            outcome: Outcome::Refused(Refusal::Cut),
+            context: before,
+        },
+        fields::place::Outcome::Forbidden => Taken {
+            outcome: Outcome::Refused(Refusal::Forbidden),
+            context: before,
+        },
+        fields::place::Outcome::Unused => Taken {
+            outcome: Outcome::Refused(Refusal::UnusedCode),
+            context: before,
+        },
+    }
+}

@@ -1,0 +1,3 @@
+-- Iarwennol. Laws that only the proofs of this crate cite.
+mod Sending
+mod Ways

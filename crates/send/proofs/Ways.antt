@@ -1,0 +1,50 @@
+-- Iarwennol. The ways of a send, each as the answer that it gives. Assume nothing.
+-- Used by the proof of send.
+use Prim.Native.Nat.{ℕ, _≤_}
+use mathlib.Core.Path.{_≡_, refl, sym}
+use mathlib.Core.Bool.{Bool, true, false, _&&_, and-eq-true-iff}
+use mathlib.Core.List.{List}
+use borrow.Author.Tests.{leb-true}
+use lib.Dec.{leb}
+use lib.ListN.{length}
+use Rattle.headers.specs.Header.{headerOf}
+use Rattle.headers.specs.Compressible.{compressible}
+use Rattle.compressor.specs.declared.table.Table.{Table}
+use Rattle.compressor.specs.declared.lookup.Found.{Found}
+use Rattle.compressor.specs.declared.lookup.Found.the-variants.{At, Nowhere}
+use Rattle.compressor.specs.Answer.{refused}
+use Rattle.compressor.specs.Table.{soundOf}
+use Rattle.compressor.specs.Lookup.{placeOf}
+use Rattle.compressor.specs.Send.{sendAt, sendPlain, sendTo, lengthAllowed, sendOf}
+use Rattle.compressor.specs.SendLaws.{On, placeOf-found}
+use Rattle.compressor.specs.Ready.{sendWith}
+
+module _ (t : Table) (p output : List ℕ) where
+  pub way-unsound : soundOf t ≡ false → refused t 1 output ≡ sendOf t p output
+  unfolding sendOf
+  way-unsound s = rw s
+
+  module _ (s : soundOf t ≡ true) where
+    pub way-length : lengthAllowed p ≡ false → refused t 2 output ≡ sendOf t p output
+    unfolding sendOf
+    way-length l = rw (s, l)
+
+    module _ (l : lengthAllowed p ≡ true) where
+      pub way-plain : compressible p ≡ false → sendPlain t p output ≡ sendOf t p output
+      unfolding sendOf
+      way-plain e = rw (s, l, e)
+
+      module _ (e : compressible p ≡ true) where
+        pub way-nowhere : placeOf t (headerOf p .flow) ≡ Nowhere → sendPlain t p output ≡ sendOf t p output
+        unfolding sendOf
+        way-nowhere q = rw (s, l, e, q)
+
+        pub way-at : (i : ℕ) → placeOf t (headerOf p .flow) ≡ At i → sendWith t i p output (headerOf p) ≡ sendOf t p output
+        unfolding sendOf sendAt
+        way-at i q = rw (s, l, e, q)
+
+        most : length p ≤ 1500
+        most = leb-true (length p) 1500 (and-eq-true-iff (leb 1 (length p)) (leb (length p) 1500) .0 l .1)
+
+        pub way-on : (i : ℕ) → placeOf t (headerOf p .flow) ≡ At i → On t p i
+        way-on i q = record { sound = s; compressible = e; most = most; place = placeOf-found t (headerOf p .flow) i q }
