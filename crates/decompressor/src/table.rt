@@ -33,14 +33,16 @@ pub fn is_empty(c: DecompressorContext) -> bool
     }
 }
 
-// Whether every context is sound, and every one from place k on is empty: one walk over the table, which is copied once.
-fn all_sound(k: usize, contexts: [DecompressorContext; 64]) -> bool
-    ensures { λ r. ⌜ r ≡ (all soundDecompressor contexts && all isEmpty (drop k contexts)) ⌝ }
+// Whether every context is sound, and every one that the settings do not give is empty. One walk, and each context is copied
+// out of the table by itself: a copy of all of them would cost as much as the tests.
+fn all_sound(t: Table) -> bool
+    ensures { λ r. ⌜ r ≡ (all soundDecompressor (t .contexts) && all isEmpty (drop (t .settings .contexts) (t .contexts))) ⌝ }
 {
+    let k = t.settings.contexts as usize;
     let mut ok = true;
     let mut i = 0;
     while i < 64 {
-        let c = contexts[i];
+        let c = t.contexts[i];
         ok = ok & sound_context(c) & (is_empty(c) | (i < k));
         i += 1;
     }
@@ -53,8 +55,7 @@ pub fn sound(t: Table) -> bool
 {
     let s = t.settings;
     if s.is_sound() {
-        let contexts = t.contexts;
-        return all_sound(s.contexts as usize, contexts);
+        return all_sound(t);
     }
     false
 }
