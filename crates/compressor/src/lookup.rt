@@ -30,13 +30,14 @@ fn is_of(f: Flow, c: CompressorContext) -> bool
     !is_empty(c) & same_flow(f, flow)
 }
 
-fn lowest_of(f: Flow, k: usize, contexts: [CompressorContext; 64]) -> Found
-    requires { ⌜ k ≤ 64 ⌝ }
-    ensures { λ r. ⌜ r ≡ lowest (isOf f) contexts 0 k ⌝ }
+fn lowest_of(t: Table, f: Flow) -> Found
+    requires { ⌜ t .settings .contexts ≤ 64 ⌝ }
+    ensures { λ r. ⌜ r ≡ lowest (isOf f) (t .contexts) 0 (t .settings .contexts) ⌝ }
 {
+    let k = t.settings.contexts as usize;
     let mut i = 0;
     while i < k {
-        let c = contexts[i];
+        let c = t.contexts[i];
         if is_of(f, c) {
             return Found::At(i);
         }
@@ -45,13 +46,14 @@ fn lowest_of(f: Flow, k: usize, contexts: [CompressorContext; 64]) -> Found
     Found::Nowhere
 }
 
-fn lowest_empty(k: usize, contexts: [CompressorContext; 64]) -> Found
-    requires { ⌜ k ≤ 64 ⌝ }
-    ensures { λ r. ⌜ r ≡ lowest isEmpty contexts 0 k ⌝ }
+fn lowest_empty(t: Table) -> Found
+    requires { ⌜ t .settings .contexts ≤ 64 ⌝ }
+    ensures { λ r. ⌜ r ≡ lowest isEmpty (t .contexts) 0 (t .settings .contexts) ⌝ }
 {
+    let k = t.settings.contexts as usize;
     let mut i = 0;
     while i < k {
-        let c = contexts[i];
+        let c = t.contexts[i];
         if is_empty(c) {
             return Found::At(i);
         }
@@ -65,11 +67,8 @@ pub fn find(t: Table, f: Flow) -> Found
     requires { ⌜ t .settings .contexts ≤ 64 ⌝ }
     ensures { λ r. ⌜ r ≡ placeOf t f ⌝ }
 {
-    let s = t.settings;
-    let k = s.contexts as usize;
-    let contexts = t.contexts;
-    match lowest_of(f, k, contexts) {
+    match lowest_of(t, f) {
         Found::At(i) => Found::At(i),
-        Found::Nowhere => lowest_empty(k, contexts),
+        Found::Nowhere => lowest_empty(t),
     }
 }

@@ -1,4 +1,5 @@
 ghost use mathlib.Core.Path.{_≡_};
+ghost use mathlib.Core.Bool.{_&&_};
 ghost use Prim.Native.Nat.{_≤_};
 ghost use lib.ListN.{drop};
 ghost use mathlib.Core.List.{[]};
@@ -32,29 +33,19 @@ pub fn is_empty(c: CompressorContext) -> bool
     }
 }
 
-fn all_sound(n: u8, contexts: [CompressorContext; 64]) -> bool
-    requires { ⌜ n ≤ 14 ⌝ }
-    ensures { λ r. ⌜ r ≡ all (soundCompressor n) contexts ⌝ }
+// Whether every context is sound, and every one that the settings do not give is empty. One walk, and each context is copied
+// out of the table by itself: a copy of all of them would cost as much as the tests.
+fn all_sound(t: Table) -> bool
+    requires { ⌜ t .settings .repeats ≤ 14 ⌝ }
+    ensures { λ r. ⌜ r ≡ (all (soundCompressor (t .settings .repeats)) (t .contexts) && all isEmpty (drop (t .settings .contexts) (t .contexts))) ⌝ }
 {
+    let n = t.settings.repeats;
+    let k = t.settings.contexts as usize;
     let mut ok = true;
     let mut i = 0;
     while i < 64 {
-        let c = contexts[i];
-        ok = ok & sound_context(n, c);
-        i += 1;
-    }
-    ok
-}
-
-fn empty_from(k: usize, contexts: [CompressorContext; 64]) -> bool
-    requires { ⌜ k ≤ 64 ⌝ }
-    ensures { λ r. ⌜ r ≡ all isEmpty (drop k contexts) ⌝ }
-{
-    let mut ok = true;
-    let mut i = k;
-    while i < 64 {
-        let c = contexts[i];
-        ok = ok & is_empty(c);
+        let c = t.contexts[i];
+        ok = ok & sound_context(n, c) & (is_empty(c) | (i < k));
         i += 1;
     }
     ok
@@ -66,8 +57,7 @@ pub fn sound(t: Table) -> bool
 {
     let s = t.settings;
     if s.is_sound() {
-        let contexts = t.contexts;
-        return all_sound(s.repeats, contexts) & empty_from(s.contexts as usize, contexts);
+        return all_sound(t);
     }
     false
 }

@@ -1,5 +1,5 @@
 ghost use mathlib.Core.Path.{_≡_};
-ghost use Prim.Native.Nat.{_≤_};
+ghost use mathlib.Core.Bool.{_&&_};
 ghost use lib.ListN.{drop};
 ghost use mathlib.Core.List.{[]};
 ghost use Rattle.context.specs.All.{all};
@@ -33,28 +33,17 @@ pub fn is_empty(c: DecompressorContext) -> bool
     }
 }
 
-fn all_sound(contexts: [DecompressorContext; 64]) -> bool
-    ensures { λ r. ⌜ r ≡ all soundDecompressor contexts ⌝ }
+// Whether every context is sound, and every one that the settings do not give is empty. One walk, and each context is copied
+// out of the table by itself: a copy of all of them would cost as much as the tests.
+fn all_sound(t: Table) -> bool
+    ensures { λ r. ⌜ r ≡ (all soundDecompressor (t .contexts) && all isEmpty (drop (t .settings .contexts) (t .contexts))) ⌝ }
 {
+    let k = t.settings.contexts as usize;
     let mut ok = true;
     let mut i = 0;
     while i < 64 {
-        let c = contexts[i];
-        ok = ok & sound_context(c);
-        i += 1;
-    }
-    ok
-}
-
-fn empty_from(k: usize, contexts: [DecompressorContext; 64]) -> bool
-    requires { ⌜ k ≤ 64 ⌝ }
-    ensures { λ r. ⌜ r ≡ all isEmpty (drop k contexts) ⌝ }
-{
-    let mut ok = true;
-    let mut i = k;
-    while i < 64 {
-        let c = contexts[i];
-        ok = ok & is_empty(c);
+        let c = t.contexts[i];
+        ok = ok & sound_context(c) & (is_empty(c) | (i < k));
         i += 1;
     }
     ok
@@ -66,8 +55,7 @@ pub fn sound(t: Table) -> bool
 {
     let s = t.settings;
     if s.is_sound() {
-        let contexts = t.contexts;
-        return all_sound(contexts) & empty_from(s.contexts as usize, contexts);
+        return all_sound(t);
     }
     false
 }

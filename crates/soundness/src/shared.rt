@@ -8,14 +8,14 @@ use packet::header::Flow;
 use packet::header::Ip;
 use packet::header::Rtp;
 
-// Whether all words from the given place on are 0.
+// Whether all words from the given place on are 0. Every word is looked at, so that the turns are as many for every count.
 fn zero_from(words: [u32; 15], count: u8) -> bool
     ensures { λ r. ⌜ r ≡ zeros (drop count words) ⌝ }
 {
     let mut ok = true;
-    let mut i = count as usize;
+    let mut i = 0;
     while i < 15 {
-        ok = ok & (words[i] == 0);
+        ok = ok & ((words[i] == 0) | (i < count as usize));
         i += 1;
     }
     ok

@@ -3,9 +3,6 @@ use borrow.Author.Needs.{needs}
 use Rattle.compressor.proofs.lookup.find.Statement.{statement}
 use Rattle.compressor.proofs.lookup.find.Tie as tie
 
-cast-k : tie.Need-cast-k
-cast-k c = search needs
-
 lowest-of-requires : tie.Need-lowest-of-requires
 lowest-of-requires c κs = search needs
 
@@ -29,11 +26,4 @@ returns-2 c = rw (← c .before .before .before .lowest-of .ensures, c .before .
 pub find-spec : {M : Type 1} → statement M
 find-spec =
     tie.close
-    (tie.spec
-    cast-k
-    lowest-of-requires
-    enum-known-i
-    enum-told
-    lowest-empty-requires
-    returns
-    returns-2)
+    (tie.spec lowest-of-requires enum-known-i enum-told lowest-empty-requires returns returns-2)

@@ -1,6 +1,4 @@
 use Rattle.decompressor.specs.Table.{soundOf}
-use Rattle.settings.specs.SettingsLaws.{range-most}
-use mathlib.Core.Path.{sym, _∙_}
 use borrow.Author.Needs.{needs}
 use Rattle.decompressor.proofs.table.sound.Statement.{statement}
 use Rattle.decompressor.proofs.table.sound.Tie as tie
@@ -11,28 +9,13 @@ is-sound-requires c κs = search needs
 all-sound-requires : tie.Need-all-sound-requires
 all-sound-requires c κs = search needs
 
-cast-empty-from : tie.Need-cast-empty-from
-cast-empty-from c = search needs
-
-empty-from-requires : tie.Need-empty-from-requires
-empty-from-requires c κs = let s = c .before .before .before .before .before .before .args .t .settings in
-    range-most (s .repeats) (s .contexts) (sym (c .before .before .before .before .is-sound .ensures) ∙ c .before .before .before .if1 .taken)
-
 returns : tie.Need-returns
 unfolding soundOf
-returns c = rw (c .empty-from .ensures, c .before .before .all-sound .ensures, ← c .before .before .before .before .before .is-sound .ensures, c .before .before .before .before .if1 .taken)
+returns c = rw (c .all-sound .ensures, ← c .before .before .is-sound .ensures, c .before .if1 .taken)
 
 returns-2 : tie.Need-returns-2
 unfolding soundOf
 returns-2 c = rw (← c .before .is-sound .ensures, c .if1 .left)
 
 pub sound-spec : {M : Type 1} → statement M
-sound-spec =
-    tie.close
-    (tie.spec
-    is-sound-requires
-    all-sound-requires
-    cast-empty-from
-    empty-from-requires
-    returns
-    returns-2)
+sound-spec = tie.close (tie.spec is-sound-requires all-sound-requires returns returns-2)
