@@ -33,8 +33,8 @@ pub fn is_empty(c: CompressorContext) -> bool
     }
 }
 
-// Whether every context is sound, and every one that the settings do not give is empty. One walk, and each context is copied
-// out of the table by itself: a copy of all of them would cost as much as the tests.
+// Whether every context is sound, and every one that the settings do not give is empty: both in one walk, since a walk of its
+// own would have the table copied once more.
 fn all_sound(t: Table) -> bool
     requires { ⌜ t .settings .repeats ≤ 14 ⌝ }
     ensures { λ r. ⌜ r ≡ (all (soundCompressor (t .settings .repeats)) (t .contexts) && all isEmpty (drop (t .settings .contexts) (t .contexts))) ⌝ }
