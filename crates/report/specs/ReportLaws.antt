@@ -8,7 +8,7 @@ use native.Mathlib.Nat.{add-zero, zero-add, sub-zero}
 use native.Mathlib.Numerals.{add-one}
 use native.Mathlib.Omega.{arith}
 use borrow.Author.Tests.{eqb-true}
-use lib.Dec.{eqb}
+use lib.Dec.{eqb, ltb}
 use lib.ListN.{length, getD, take, drop, length-append, take-append-drop}
 use lib.Seq.{take-suc, take-all, length-take-le}
 use Rattle.refresh.specs.declared.judgement.Judgement.the-variants.{Good}
@@ -25,7 +25,7 @@ use Rattle.bytes.specs.PutLaws.{wrote-front}
 use Rattle.context.specs.declared.refusal.Refusal.the-variants.{NoRoom}
 use Rattle.decompressor.specs.declared.answer.Outcome.the-variants.{Accepted, Refused}
 use Rattle.decompressor.specs.declared.table.Table.{Table}
-use Rattle.decompressor.specs.Answer.{said, delivered}
+use Rattle.decompressor.specs.Answer.{said, accepted, refused, delivered}
 use Rattle.decompressor.specs.Table.{emptyBy, isEmpty, soundOf}
 use Rattle.decompressor.specs.TableLaws.{Sound}
 use Rattle.decompressor.specs.PacketLaws.{said-noRoom, said-accepted}
@@ -164,6 +164,20 @@ module _ (t : Table) (output : List ℕ) (sound : soundOf t ≡ true) where
           let room : length (reportBytes t) ≤ length output = rw (← size-some) h in
           said-accepted t t (reportBytes t) output (2 + 3 * n) out room size-some (wrote-front (rw (← bytes-some) at w) room)
           ∙ sym reportOf-sound
+
+---- a report changes nothing
+
+table-by : (z : Bool) (t : Table) (n : ℕ) (bytes output : List ℕ) → cond z (refused t n output) (accepted t bytes output) .table ≡ t
+table-by true t n bytes output = refl
+table-by false t n bytes output = refl
+
+table-if : (z : Bool) (t : Table) (bytes output : List ℕ) → cond z (delivered t t bytes output) (refused t 1 output) .table ≡ t
+table-if true t bytes output = table-by (ltb (length output) (length bytes)) t 11 bytes output
+table-if false t bytes output = refl
+
+pub table-reportOf : (t : Table) (output : List ℕ) → reportOf t output .table ≡ t
+unfolding reportOf
+table-reportOf t output = table-if (soundOf t) t (reportBytes t) output
 
 ---- a report is a good request
 
