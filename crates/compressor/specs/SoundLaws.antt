@@ -167,3 +167,17 @@ module _ (t : Table) (p : List ℕ) (size : length (t .contexts) ≡ 64) (bytes 
 
   pub send-given : sendOf t p output .number ≡ 0 → Given (sendOf t p output)
   send-given e = goes-given (sendOf t p output) (sendOf-goes t p output) e
+
+-- a link packet that is not plain is on a context that the settings give; sentBytes has its number
+pub record OnContext (t : Table) (p output : List ℕ) (r : Result) : Type 0 where
+  pub place : ℕ
+  pub below : place < t .settings .contexts
+  pub sent : r ≡ sentOn t p output place
+
+goes-among : (t : Table) (p output : List ℕ) (r : Result) → Goes t p output r → r .number ≡ 0 → 1 ≤ r .kind → OnContext t p output r
+goes-among t p output _ (goes-refused n h) e k = absurd (omega (arith, h, e))
+goes-among t p output _ (goes-plain s least most) e k = absurd (omega (arith, k))
+goes-among t p output _ (goes-on i o) e k = record { place = i; below = o .place .among; sent = refl }
+
+pub send-among : (t : Table) (p output : List ℕ) → sendOf t p output .number ≡ 0 → 1 ≤ sendOf t p output .kind → OnContext t p output (sendOf t p output)
+send-among t p output e k = goes-among t p output (sendOf t p output) (sendOf-goes t p output) e k
