@@ -1,13 +1,13 @@
 use crate::clock::now;
 use crate::clock::passed;
 use crate::show::line;
-use batch::tally::Tally;
-use batch::tally::count_batch;
-use batch::tally::nothing;
-use batch::turns::copy_all;
-use batch::turns::make;
-use batch::turns::receive_all;
-use batch::turns::send_all;
+use bench_packets::tally::Tally;
+use bench_packets::tally::count_batch;
+use bench_packets::tally::nothing;
+use bench_packets::turns::copy_all;
+use bench_packets::turns::make;
+use bench_packets::turns::receive_all;
+use bench_packets::turns::send_all;
 
 // Microseconds of a round's 32,000 sends, receives and copies.
 pub struct Times {

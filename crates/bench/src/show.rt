@@ -1,5 +1,5 @@
 use crate::round::Times;
-use batch::tally::Tally;
+use bench_packets::tally::Tally;
 
 fn field(name: &[u8], n: u64) {
     io::write_all(1, name);

@@ -4,9 +4,9 @@ use Prim.Native.Nat.{ℕ, zero, suc}
 use mathlib.Core.Bool.{Bool, cond}
 use mathlib.Core.List.{List, []}
 use lib.ListN.{getD, set}
-use Rattle.refresh.specs.declared.judgement.Judgement.{Judgement}
-use Rattle.refresh.specs.declared.judgement.Judgement.the-variants.{Good, Cut, Forbidden, NoSuchContext}
-use Rattle.refresh.specs.Cs.{requestJudged, recordCount, recordContext, recordAsks}
+use Rattle.links.specs.declared.judgement.Judgement.{Judgement}
+use Rattle.links.specs.declared.judgement.Judgement.the-variants.{Good, Cut, Forbidden, NoSuchContext}
+use Rattle.links.specs.Cs.{requestJudged, recordCount, recordContext, recordAsks}
 use Rattle.context.specs.Compressor.{requested}
 use Rattle.context.specs.declared.compressor.CompressorContext.{CompressorContext}
 use Rattle.compressor.specs.declared.table.Table.{Table}

@@ -11,9 +11,9 @@ use borrow.Author.Tests.{eqb-true, eqb-false}
 use lib.Dec.{eqb}
 use lib.ListN.{length, getD, set, drop, length-set, length-drop}
 use lib.Seq.{set-getD, getD-set-same, getD-set-other, set-out, getD-drop}
-use Rattle.refresh.specs.Cs.{recordCount, recordContext, recordAsks, requestJudged}
-use Rattle.refresh.specs.declared.judgement.Judgement.{Judgement}
-use Rattle.refresh.specs.declared.judgement.Judgement.the-variants.{Good, Cut, Forbidden, NoSuchContext}
+use Rattle.links.specs.Cs.{recordCount, recordContext, recordAsks, requestJudged}
+use Rattle.links.specs.declared.judgement.Judgement.{Judgement}
+use Rattle.links.specs.declared.judgement.Judgement.the-variants.{Good, Cut, Forbidden, NoSuchContext}
 use Rattle.context.specs.All.{all}
 use Rattle.context.specs.Sound.{soundCompressor}
 use Rattle.context.proofs.CompressorSound.{sound-requested, requested-kept}

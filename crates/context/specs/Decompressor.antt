@@ -1,6 +1,6 @@
 -- Iarwennol. The decompressor, one context.
 -- Its rules in their order (rules 7, 3.1); n is the repeats, g the gap, q a packet's link sequence.
--- Used by rebuild, whose code equals them, and by the relation between the ends.
+-- Used by decompress, whose code equals them, and by the relation between the ends.
 use Prim.Native.Nat.{ℕ, _+_}
 use mathlib.Core.Bool.{Bool, true, cond, not, _||_}
 use lib.Dec.{eqb, ltb}

@@ -29,9 +29,9 @@ use Rattle.headers.specs.Checksum.{ipChecksumOf, ipChecksum}
 use Rattle.headers.specs.Compressible.{fixedForm, compressible}
 use Rattle.headers.specs.Header.{rtpAt, flowOf, ipOf, headerOf, ipFront, ipBack, udpBytes, rtpFixed, headerBytes}
 use Rattle.links.specs.Cr.{crBytes, secondWith, secondOf, deltasOf, crRest, crOf}
-use Rattle.refresh.specs.Cs.{recordWith, recordJudged, requestJudged}
+use Rattle.links.specs.Cs.{recordWith, recordJudged, requestJudged}
 use Rattle.links.specs.Cu.{cuBytes, changesOf, valuesOf, cuRest, cuOf}
-use Rattle.refresh.specs.Fh.{fhBytes, fieldsForm, fhJudged, fhOf}
+use Rattle.links.specs.Fh.{fhBytes, fieldsForm, fhJudged, fhOf}
 use Rattle.links.specs.Head.{headOf}
 use Rattle.packet.specs.Csrc.{sameList}
 use Rattle.crtp.specs.Robust.{Bytes, Call, send, request, arrival, other, World, Sent, step, after, Ordered, losses, Bounded, Opened, Premises}

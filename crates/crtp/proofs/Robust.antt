@@ -17,7 +17,7 @@ use Rattle.settings.specs.declared.Settings.{Settings}
 use Rattle.settings.specs.SettingsLaws.{range-repeats, range-most}
 use Rattle.headers.specs.Header.{headerOf}
 use Rattle.headers.specs.HeaderLaws.{headerOf-range}
-use Rattle.refresh.specs.FhLaws.{FhFits}
+use Rattle.links.specs.FhLaws.{FhFits}
 use Rattle.context.specs.AllLaws.{all-at}
 use Rattle.context.specs.Range as context
 use Rattle.context.specs.Sound.{soundCompressor, emptyCompressor, emptyDecompressor}

@@ -22,9 +22,9 @@ use Rattle.headers.specs.Header.{headerOf, flowOf, headerSize}
 use Rattle.headers.specs.CompressibleLaws.{compressible-true}
 use Rattle.headers.specs.HeaderLaws.{headerOf-range}
 use Rattle.headers.specs.BytesLaws.{allBytes-drop}
-use Rattle.refresh.specs.Fh.{fhBytes, fhOf}
-use Rattle.refresh.specs.FhLaws.{FhFits, allBytes-fhBytes, fhOf-fhBytes}
-use Rattle.refresh.specs.declared.fh.FullHeader as fh
+use Rattle.links.specs.Fh.{fhBytes, fhOf}
+use Rattle.links.specs.FhLaws.{FhFits, allBytes-fhBytes, fhOf-fhBytes}
+use Rattle.links.specs.declared.fh.FullHeader as fh
 use Rattle.links.specs.Cu.{cuBytes}
 use Rattle.links.specs.CuLaws.{contextOf-cuBytes, allBytes-cuBytes}
 use Rattle.links.specs.Cr.{crBytes}

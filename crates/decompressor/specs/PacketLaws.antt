@@ -17,9 +17,9 @@ use Rattle.headers.specs.Compressible.{compressible}
 use Rattle.headers.specs.CompressibleLaws.{compressible-size}
 use Rattle.headers.specs.ListLaws.{length-listBytes}
 use Rattle.headers.specs.RoundTrip.{printed-headerOf}
-use Rattle.refresh.specs.declared.judgement.Judgement.the-variants.{Good}
-use Rattle.refresh.specs.Fh.{fhJudged, fhOf}
-use Rattle.refresh.specs.FhLaws.{fhOf-start, fhOf-within, fhOf-range}
+use Rattle.links.specs.declared.judgement.Judgement.the-variants.{Good}
+use Rattle.links.specs.Fh.{fhJudged, fhOf}
+use Rattle.links.specs.FhLaws.{fhOf-start, fhOf-within, fhOf-range}
 use Rattle.context.specs.declared.refusal.Refusal.the-variants.{NoRoom}
 use Rattle.decompressor.specs.declared.answer.Outcome.the-variants.{Accepted, Refused}
 use Rattle.decompressor.specs.declared.table.Table.{Table}

@@ -19,10 +19,10 @@ use Rattle.links.specs.Head.{contextOf, headOf}
 use Rattle.links.specs.Cu.{cuOf}
 use Rattle.links.specs.Cr.{crOf}
 use Rattle.links.specs.Whole.{wholeOf}
-use Rattle.refresh.specs.declared.fh.FullHeader.{FullHeader}
-use Rattle.refresh.specs.declared.judgement.Judgement.{Judgement}
-use Rattle.refresh.specs.declared.judgement.Judgement.the-variants.{Good, Cut, Forbidden, NoSuchContext}
-use Rattle.refresh.specs.Fh.{fhJudged, fhOf}
+use Rattle.links.specs.declared.fh.FullHeader.{FullHeader}
+use Rattle.links.specs.declared.judgement.Judgement.{Judgement}
+use Rattle.links.specs.declared.judgement.Judgement.the-variants.{Good, Cut, Forbidden, NoSuchContext}
+use Rattle.links.specs.Fh.{fhJudged, fhOf}
 use Rattle.context.specs.Refusal as refusal
 use Rattle.context.specs.Decompressor.{filled, broke, applied, appliedWhole, rebuilt}
 use Rattle.context.specs.declared.decompressor.Status.{Status}

@@ -21,8 +21,8 @@ use Rattle.links.specs.Cu.{cuBytes, cuFlags, cuOf}
 use Rattle.links.specs.CuLaws.{contextOf-cuBytes, headOf-cuBytes, cuOf-cuBytes}
 use Rattle.links.specs.Cr.{crBytes, crFlags, crOf}
 use Rattle.links.specs.CrLaws.{contextOf-crBytes, headOf-crBytes, crOf-crBytes}
-use Rattle.refresh.specs.Fh.{fhBytes, fhOf}
-use Rattle.refresh.specs.FhLaws.{FhFits, length-fhBytes, fhJudged-fhBytes, fhOf-fhBytes}
+use Rattle.links.specs.Fh.{fhBytes, fhOf}
+use Rattle.links.specs.FhLaws.{FhFits, length-fhBytes, fhJudged-fhBytes, fhOf-fhBytes}
 use Rattle.context.specs.Decompressor.{applied, filled}
 use Rattle.context.specs.declared.decompressor.Status.{Status}
 use Rattle.context.specs.declared.decompressor.Status.the-variants.{Live}

@@ -21,15 +21,15 @@ use Rattle.headers.specs.Header.{headerSize}
 use Rattle.links.specs.declared.head.Head.{Head}
 use Rattle.links.specs.declared.head.ReadParts.{ReadParts}
 use Rattle.links.specs.declared.whole.ReadWhole.{ReadWhole}
-use Rattle.refresh.specs.declared.judgement.Judgement.{Judgement}
-use Rattle.refresh.specs.declared.judgement.Judgement.the-variants.{Good, Cut, Forbidden, NoSuchContext}
+use Rattle.links.specs.declared.judgement.Judgement.{Judgement}
+use Rattle.links.specs.declared.judgement.Judgement.the-variants.{Good, Cut, Forbidden, NoSuchContext}
 use Rattle.links.specs.Head.{contextOf, headOf}
 use Rattle.links.specs.HeadLaws.{headOf-low}
 use Rattle.links.specs.Cu.{cuOf}
 use Rattle.links.specs.Cr.{crOf}
 use Rattle.links.specs.Whole.{wholeOf}
-use Rattle.refresh.specs.Fh.{fhJudged, fhOf}
-use Rattle.refresh.specs.FhLaws.{fhOf-context, fhOf-generation, fhOf-link, fhOf-range}
+use Rattle.links.specs.Fh.{fhJudged, fhOf}
+use Rattle.links.specs.FhLaws.{fhOf-context, fhOf-generation, fhOf-link, fhOf-range}
 use Rattle.links.specs.Range as links
 use Rattle.context.specs.Refusal as refusal
 use Rattle.context.specs.declared.refusal.Refusal.{Refusal}

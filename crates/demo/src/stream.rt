@@ -93,9 +93,9 @@ pub fn put_packet(out: &mut [u8; 84], i: u32) -> usize
     ensures { λ r. ⌜ r ≤ 64 ⌝ }
 {
     let h = header(i);
-    let size = headers::read::header_size(h);
+    let size = headers_read::read::header_size(h);
     let total = size + 20;
-    headerwrite::write::put_printed(out, 0, h, total as u16);
+    headers_write::write::put_printed(out, 0, h, total as u16);
     put_payload(out, size, total, i);
     total
 }

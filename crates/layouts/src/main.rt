@@ -1,12 +1,12 @@
-// Prints the bytes of the worked cases of the link layouts, as the functions of `encode` write them.
+// Prints the bytes of the worked cases of the link layouts, as the functions of `links_write` and `refresh` write them.
 //
 // What it prints is compared with the rules' cases (11.1), which were written down by hand.
 ghost use Prim.Native.Nat.{_≤_};
 ghost use Rattle.headers.specs.Range.{Narrow};
-use encode::cr::cr_size;
-use encode::cr::put_cr;
-use encode::cu::cu_size;
-use encode::cu::put_cu;
+use links_write::cr::cr_size;
+use links_write::cr::put_cr;
+use links_write::cu::cu_size;
+use links_write::cu::put_cu;
 use packet::csrc::no_list;
 use packet::header::Flow;
 use packet::header::Header;

@@ -29,14 +29,14 @@ use Rattle.fields.specs.NextRange.{zero-words}
 use Rattle.fields.specs.Next.{next, nextByte, nextWord, nextLong, nextDelta16, nextDelta32, nextPayload, readPayload}
 use Rattle.links.specs.Sent.{none8, none16, none32}
 use Rattle.links.specs.Fits.{CuFits, CrFits}
-use Rattle.refresh.specs.Judgement.{judgementNumber}
+use Rattle.links.specs.Judgement.{judgementNumber}
 use Rattle.links.specs.Head.{headOf}
 use Rattle.links.specs.Cu.{cuBytes, changesOf, valuesOf, cuRest, cuOf}
 use Rattle.links.specs.Cr.{crBytes, secondWith, secondOf, deltasOf, crRest, crOf}
-use Rattle.refresh.specs.Cs.{State, csBytes, recordWith, recordJudged, requestJudged}
-use Rattle.refresh.specs.CsLaws.{StatesFit, none-fit, more-fit}
-use Rattle.refresh.specs.Fh.{fhBytes, fieldsForm, fhJudged, fhOf}
-use Rattle.refresh.specs.FhLaws.{FhFits}
+use Rattle.links.specs.Cs.{State, csBytes, recordWith, recordJudged, requestJudged}
+use Rattle.links.specs.CsLaws.{StatesFit, none-fit, more-fit}
+use Rattle.links.specs.Fh.{fhBytes, fieldsForm, fhJudged, fhOf}
+use Rattle.links.specs.FhLaws.{FhFits}
 
 ---- what the cases are about
 

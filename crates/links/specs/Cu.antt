@@ -1,5 +1,5 @@
 -- Iarwennol. COMPRESSED_UDP with F (rule 6.3): its bytes, and the reader that takes them apart from left to right.
--- The reader begins past the flag byte. Used by the compressor through encode, and by the decompressor.
+-- The reader begins past the flag byte. Used by the compressor through outgoing, and by the decompressor.
 use Prim.Native.Nat.{ℕ}
 use mathlib.Core.Bool.{Bool, true}
 use mathlib.Core.List.{List, _∷_, _++_}

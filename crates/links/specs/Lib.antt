@@ -1,3 +1,8 @@
+pub mod Judgement
+pub mod Fh
+pub mod FhLaws
+pub mod Cs
+pub mod CsLaws
 pub mod Sent
 pub mod SentLaws
 pub mod Fits

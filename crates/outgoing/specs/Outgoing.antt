@@ -4,7 +4,7 @@ use Prim.Native.Nat.{ℕ}
 use mathlib.Core.Bool.{not}
 use mathlib.Core.List.{List}
 use Rattle.packet.specs.declared.header.Header.{Header}
-use Rattle.refresh.specs.Fh.{fhBytes}
+use Rattle.links.specs.Fh.{fhBytes}
 use Rattle.links.specs.Cu.{cuBytes}
 use Rattle.links.specs.Cr.{crBytes}
 use Rattle.context.specs.Compressor.{firstStep, stepOf}

@@ -6,7 +6,7 @@ use lib.ListN.{length}
 use Rattle.packet.specs.declared.header.Header.{Header}
 use Rattle.headers.specs.Header.{headerSize}
 use Rattle.headers.specs.Range.{HeaderInRange}
-use Rattle.encode.specs.Size.{cuSize, crSize}
+use Rattle.links_write.specs.Size.{cuSize, crSize}
 use Rattle.context.specs.declared.step.Kind.{Kind}
 use Rattle.context.specs.declared.step.Kind.the-variants.{FullHeader, CompressedUdp, CompressedRtp}
 use Rattle.context.specs.declared.step.Step.{Step}

@@ -14,9 +14,9 @@ use Rattle.bytes.specs.PutLaws.{length-optional-le}
 use Rattle.headers.specs.Header.{headerSize}
 use Rattle.headers.specs.HeaderLaws.{length-headerBytes}
 use Rattle.headers.specs.Checksum.{ipChecksum}
-use Rattle.refresh.specs.Fh.{ipField, fhBytes}
-use Rattle.encode.specs.Size.{cuSize, crSize}
-use Rattle.encode.specs.SizeLaws.{length-cuBytes, length-crBytes}
+use Rattle.links.specs.Fh.{ipField, fhBytes}
+use Rattle.links_write.specs.Size.{cuSize, crSize}
+use Rattle.links_write.specs.SizeLaws.{length-cuBytes, length-crBytes}
 use Rattle.context.specs.declared.step.Kind.{Kind}
 use Rattle.context.specs.declared.step.Kind.the-variants.{FullHeader, CompressedUdp, CompressedRtp}
 use Rattle.context.specs.declared.step.Step.{Step}

@@ -13,19 +13,19 @@ use crate::settle::settle_read;
 use context::decompressor::DecompressorContext;
 use context::decompressor::Status;
 use context::refusal::Refusal;
+use decompress::apply::apply;
+use decompress::apply::apply_whole;
+use decompress::apply::break_context;
 use decompressor::answer::Answer;
 use decompressor::answer::Outcome;
 use decompressor::table::Table;
 use fields::place::is_good;
-use links::cr::read_cr;
-use links::cu::read_cu;
 use links::head::Head;
 use links::head::ReadParts;
-use links::head::read_head;
-use links::whole::read_cu_whole;
-use rebuild::apply::apply;
-use rebuild::apply::apply_whole;
-use rebuild::apply::break_context;
+use links_read::cr::read_cr;
+use links_read::cu::read_cu;
+use links_read::head::read_head;
+use links_read::whole::read_cu_whole;
 
 // The parts of a CR, or of a CU with F, that has the link sequence q.
 fn receive_parts(

@@ -1,21 +1,21 @@
 ghost use mathlib.Core.Path.{_≡_};
 ghost use Prim.Native.Nat.{_≤_};
 ghost use lib.ListN.{length, drop};
-ghost use Rattle.refresh.specs.Fh.{fhJudged, fhOf};
-ghost use Rattle.refresh.specs.declared.judgement.Judgement.the-variants.{Good};
+ghost use Rattle.links.specs.Fh.{fhJudged, fhOf};
+ghost use Rattle.links.specs.declared.judgement.Judgement.the-variants.{Good};
 ghost use Rattle.decompressor.specs.Answer.{said, delivered};
 ghost use Rattle.decompressor.specs.TableLaws.{Sound};
 ghost use Rattle.decompressor.specs.Receive.{packetOf, fullTable, receiveFull};
 use crate::output::put_packet;
 use context::kept::Link;
 use context::refusal::Refusal;
+use decompress::full::fill;
 use decompressor::answer::Answer;
 use decompressor::answer::Outcome;
 use decompressor::table::Table;
-use rebuild::full::fill;
+use links::judgement::Judgement;
 use refresh::fh::judge_fh;
 use refresh::fh::read_fh;
-use refresh::judgement::Judgement;
 
 // A full header that was judged good. The packet is as long as it, since only what stands in two fields differs.
 fn accept_full(t: Table, s: &[u8], out: &mut [u8]) -> Answer

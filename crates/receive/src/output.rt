@@ -6,7 +6,7 @@ ghost use Rattle.headers.specs.Header.{headerSize};
 ghost use Rattle.headers.specs.Range.{Narrow};
 ghost use Rattle.decompressor.specs.Receive.{packetOf};
 use bytes::put::put_all;
-use headerwrite::write::put_printed;
+use headers_write::write::put_printed;
 use packet::header::Header;
 
 // How long the packet is that has this header and this rest.

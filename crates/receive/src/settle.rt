@@ -11,9 +11,9 @@ use crate::output::put_packet;
 use context::decompressor::Applied;
 use context::decompressor::DecompressorContext;
 use context::refusal::Refusal;
+use decompress::header::rebuild;
 use decompressor::answer::Outcome;
 use fields::place::Place;
-use rebuild::header::rebuild;
 
 // What became of a link packet on its context, and the context that it leaves: as it was, moved on, or broken.
 //

@@ -4,12 +4,12 @@ ghost use Prim.Native.Nat.{_≤_, _<_, _+_, _*_};
 ghost use lib.ListN.{length};
 ghost use mathlib.Core.List.{[], _∷_};
 ghost use Rattle.bytes.specs.Put.{Wrote};
-ghost use Rattle.refresh.specs.Cs.{recordCount, recordContext, recordAsks, recordJudged, recordsJudged, requestJudged, recordBytes};
-use crate::judgement::Judgement;
+ghost use Rattle.links.specs.Cs.{recordCount, recordContext, recordAsks, recordJudged, recordsJudged, requestJudged, recordBytes};
 use bytes::flags::Flags;
 use bytes::flags::pack;
 use bytes::flags::split;
 use bytes::put::put8;
+use links::judgement::Judgement;
 
 fn index(b: u8) -> usize
     ensures { λ r. ⌜ (r ≡ b) × (r < 256) ⌝ }

@@ -4,28 +4,18 @@ ghost use lib.ListN.{length};
 ghost use Rattle.headers.specs.Header.{countAt, headerSize};
 ghost use Rattle.bytes.specs.Put.{Wrote};
 ghost use Rattle.headers.specs.Range.{Narrow};
-ghost use Rattle.refresh.specs.Fh.{fieldsForm, fhJudged, fhOf, ipField, fhBytes};
-use crate::judgement::Judgement;
+ghost use Rattle.links.specs.Fh.{fieldsForm, fhJudged, fhOf, ipField, fhBytes};
 use bytes::flags::split;
-use headers::form::fixed_form;
-use headers::form::ip_checksum_of;
-use headers::place::count_at;
-use headers::place::word_at;
-use headers::read::read_header;
-use headerwrite::checksum::ip_checksum;
-use headerwrite::write::put_header;
+use headers_read::form::fixed_form;
+use headers_read::form::ip_checksum_of;
+use headers_read::place::count_at;
+use headers_read::place::word_at;
+use headers_read::read::read_header;
+use headers_write::checksum::ip_checksum;
+use headers_write::write::put_header;
+use links::fh::FullHeader;
+use links::judgement::Judgement;
 use packet::header::Header;
-
-// A full header: the header of its packet, and what stands in the two length fields.
-//
-// start: where the rest of the packet begins.
-pub struct FullHeader {
-    pub header: Header,
-    pub context: u8,
-    pub generation: u8,
-    pub link: u8,
-    pub start: usize,
-}
 
 // The leading bits of the two length fields.
 fn fields_form(s: &[u8]) -> bool

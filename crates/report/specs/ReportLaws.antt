@@ -11,9 +11,9 @@ use borrow.Author.Tests.{eqb-true}
 use lib.Dec.{eqb, ltb}
 use lib.ListN.{length, getD, take, drop, length-append, take-append-drop}
 use lib.Seq.{take-suc, take-all, length-take-le}
-use Rattle.refresh.specs.declared.judgement.Judgement.the-variants.{Good}
-use Rattle.refresh.specs.Cs.{State, recordsBytes, csBytes, requestJudged}
-use Rattle.refresh.specs.CsLaws.{StateFits, StatesFit, none-fit, more-fit, length-recordsBytes, length-csBytes, recordsBytes-append, requestJudged-csBytes}
+use Rattle.links.specs.declared.judgement.Judgement.the-variants.{Good}
+use Rattle.links.specs.Cs.{State, recordsBytes, csBytes, requestJudged}
+use Rattle.links.specs.CsLaws.{StateFits, StatesFit, none-fit, more-fit, length-recordsBytes, length-csBytes, recordsBytes-append, requestJudged-csBytes}
 use Rattle.context.specs.All.{all}
 use Rattle.context.specs.Sound.{zeroFlow, zeroIp, zeroRtp, zeroList, zeroDeltas, zeroLink, filledSound, unfilledSound, soundDecompressor, soundDecompressorBy}
 use Rattle.context.proofs.SoundFacts.{LinkBounds, filledSound-bounds}

@@ -1,13 +1,13 @@
 // The context-state report: what the decompressor says of its broken contexts, so that the compressor sends them full headers.
 //
-// Tables, their soundness and the answers are `decompressor`'s, the bytes of a record `encode`'s. A report changes nothing.
+// Tables, their soundness and the answers are `decompressor`'s, the bytes of a record `refresh`'s. A report changes nothing.
 // Read `specs/Report.antt` first: `reportOf` says all that a report does.
 ghost use mathlib.Core.Path.{_≡_};
 ghost use mathlib.Core.Bool.{true, cond};
 ghost use Prim.Native.Nat.{_≤_, _<_, _+_};
 ghost use lib.ListN.{length};
 ghost use Rattle.bytes.specs.Put.{Wrote};
-ghost use Rattle.refresh.specs.Cs.{recordsBytes};
+ghost use Rattle.links.specs.Cs.{recordsBytes};
 ghost use Rattle.context.specs.All.{all};
 ghost use Rattle.context.specs.Sound.{soundDecompressor};
 ghost use Rattle.decompressor.specs.Answer.{said};

@@ -7,7 +7,7 @@ ghost use mathlib.Core.Path.{_≡_};
 ghost use mathlib.Core.Bool.{cond};
 ghost use mathlib.Core.List.{[]};
 ghost use Prim.Native.Nat.{_≤_};
-ghost use Rattle.refresh.specs.CsLaws.{RequestGood};
+ghost use Rattle.links.specs.CsLaws.{RequestGood};
 ghost use Rattle.context.specs.Compressor.{requested};
 ghost use Rattle.compressor.specs.Answer.{said};
 ghost use Rattle.compressor.specs.Request.{requestTable, requestOf};
@@ -17,11 +17,11 @@ use compressor::table::Table;
 use compressor::table::sound;
 use context::compressor::CompressorContext;
 use context::refusal::Refusal;
+use links::judgement::Judgement;
 use refresh::cs::judge_request;
 use refresh::cs::record_asks;
 use refresh::cs::record_context;
 use refresh::cs::record_count;
-use refresh::judgement::Judgement;
 
 // One record: its context starts a full-header run where the record asks for one.
 fn act_on(n: u8, asks: bool, c: CompressorContext) -> CompressorContext

@@ -1,7 +1,7 @@
 ghost use Prim.Native.Nat.{_≤_};
 ghost use lib.ListN.{length};
-use scripting::word::Word;
-use scripting::word::first_word;
+use script_text::word::Word;
+use script_text::word::first_word;
 
 // Both ends' tables.
 pub struct Tables {
@@ -36,11 +36,11 @@ pub fn run_line(
     ensures { λ r. ⌜ r .at ≤ length (now (text .exit)) ⌝ }
 {
     let w = first_word(line);
-    let call = compressorlines::line::call_at(line, w);
+    let call = script_compressor::line::call_at(line, w);
     if call < 5 {
         return run_compressor(call, t, line, w, input, output, text, at);
     }
-    let call = decompressorlines::line::call_at(line, w);
+    let call = script_decompressor::line::call_at(line, w);
     run_decompressor(call, t, line, w, input, output, text, at)
 }
 
@@ -59,7 +59,7 @@ fn run_compressor(
     ensures { λ r. ⌜ r .at ≤ length (now (text .exit)) ⌝ }
 {
     let mut next = t;
-    let r = compressorlines::line::run_line(
+    let r = script_compressor::line::run_line(
         call,
         next.compressor,
         line,
@@ -92,7 +92,7 @@ fn run_decompressor(
     ensures { λ r. ⌜ r .at ≤ length (now (text .exit)) ⌝ }
 {
     let mut next = t;
-    let r = decompressorlines::line::run_line(
+    let r = script_decompressor::line::run_line(
         call,
         next.decompressor,
         line,

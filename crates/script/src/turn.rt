@@ -5,7 +5,7 @@ use crate::line::run_line;
 use crate::line::unopened;
 use libc::STDIN_FILENO;
 use libc::STDOUT_FILENO;
-use scripting::text::put;
+use script_text::text::put;
 
 // What the whole lines of a buffer leave: the tables, and where the line begins that is not whole.
 struct Lines {

@@ -1,6 +1,6 @@
 use borrow.Author.Needs.{needs}
 use Rattle.report.specs.ReportLaws.{statesBefore, states-all, count-more}
-use Rattle.refresh.specs.Cs.{State}
+use Rattle.links.specs.Cs.{State}
 use Rattle.decompressor.specs.Table.{noContext}
 use Rattle.context.proofs.Arrays.{length-mapped}
 use lib.ListN.{length}

@@ -1,8 +1,8 @@
 use Rattle.report.specs.ReportLaws.{report-none, report-noRoom, report-accepted}
 use Rattle.report.specs.Report.{statesFrom, reportOf}
 use Rattle.decompressor.specs.TableLaws.{soundOf-true}
-use Rattle.refresh.specs.CsLaws.{length-recordsBytes}
-use Rattle.refresh.specs.Cs.{csBytes}
+use Rattle.links.specs.CsLaws.{length-recordsBytes}
+use Rattle.links.specs.Cs.{csBytes}
 use Rattle.bytes.specs.PutLaws.{wrote-then}
 use mathlib.Core.Path.{sym, _∙_}
 use borrow.Author.Tests.{not-true, not-false}

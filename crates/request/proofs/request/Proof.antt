@@ -3,8 +3,8 @@ use Rattle.compressor.specs.Request.{requestTable}
 use Rattle.compressor.specs.ReadyLaws.{sound-repeats, sound-most}
 use Rattle.compressor.specs.TableLaws.{soundOf-true}
 use mathlib.Core.Path.{sym, _∙_}
-use Rattle.refresh.specs.declared.judgement.Judgement.the-variants.{Good, Cut, Forbidden, NoSuchContext}
-use Rattle.refresh.specs.CsLaws.{requestJudged-good}
+use Rattle.links.specs.declared.judgement.Judgement.the-variants.{Good, Cut, Forbidden, NoSuchContext}
+use Rattle.links.specs.CsLaws.{requestJudged-good}
 use Rattle.compressor.specs.RequestLaws.{requestOf-unsound, requestOf-judged}
 use borrow.Author.Needs.{needs}
 use Rattle.request.proofs.request.Statement.{statement}

@@ -4,8 +4,8 @@ use Rattle.decompressor.specs.Receive.{packetOf, fullTable}
 use Rattle.decompressor.specs.TableLaws.{sound-most}
 use Rattle.context.proofs.Arrays.{part-rest}
 use lib.ListN.{length, drop}
-use Rattle.refresh.specs.Fh.{fhOf}
-use Rattle.refresh.specs.FhLaws.{fhJudged-good, fhOf-within, fhOf-context, fhOf-range}
+use Rattle.links.specs.Fh.{fhOf}
+use Rattle.links.specs.FhLaws.{fhJudged-good, fhOf-within, fhOf-context, fhOf-range}
 use Rattle.headers.specs.HeaderLaws.{range-narrow}
 use Rattle.bytes.specs.PutLaws.{wrote-front}
 use Prim.Native.Nat.{_≤_}

@@ -1,7 +1,7 @@
 use mathlib.Core.Bool.{true, false}
 use mathlib.Core.Path.{sym}
-use Rattle.refresh.specs.CsLaws.{recordWith-context, recordWith-bits}
-use Rattle.refresh.specs.Cs.{recordJudged}
+use Rattle.links.specs.CsLaws.{recordWith-context, recordWith-bits}
+use Rattle.links.specs.Cs.{recordJudged}
 use borrow.Author.Needs.{needs}
 use Rattle.refresh.proofs.cs.judge_record.Statement.{statement}
 use Rattle.refresh.proofs.cs.judge_record.Tie as tie

@@ -1,6 +1,6 @@
 use native.Mathlib.Nat.{sub-zero}
-use Rattle.refresh.specs.CsLaws.{recordsJudged-more, recordsJudged-none}
-use Rattle.refresh.specs.Cs.{recordsJudged}
+use Rattle.links.specs.CsLaws.{recordsJudged-more, recordsJudged-none}
+use Rattle.links.specs.Cs.{recordsJudged}
 use borrow.Author.Needs.{needs}
 use native.Mathlib.Omega.{arith}
 use mathlib.Core.Path.{_≡_, _∙_}

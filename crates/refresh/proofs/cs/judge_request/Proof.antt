@@ -1,5 +1,5 @@
 use borrow.Author.Tests.{eq-eqb, ne-eqb}
-use Rattle.refresh.specs.Cs.{requestJudged}
+use Rattle.links.specs.Cs.{requestJudged}
 use borrow.Author.Tests.{lt-ltb, le-ltb}
 use borrow.Author.Needs.{needs}
 use Rattle.refresh.proofs.cs.judge_request.Statement.{statement}

@@ -1,4 +1,4 @@
-use Rattle.refresh.specs.Fh.{fieldsForm}
+use Rattle.links.specs.Fh.{fieldsForm}
 use borrow.Author.Needs.{needs}
 use Rattle.refresh.proofs.fh.fields_form.Statement.{statement}
 use Rattle.refresh.proofs.fh.fields_form.Tie as tie

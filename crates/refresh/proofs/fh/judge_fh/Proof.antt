@@ -1,4 +1,4 @@
-use Rattle.refresh.specs.Fh.{fhJudged}
+use Rattle.links.specs.Fh.{fhJudged}
 use borrow.Author.Tests.{lt-ltb, le-ltb, lt-leb, le-leb}
 use borrow.Author.Needs.{needs}
 use Rattle.refresh.proofs.fh.judge_fh.Statement.{statement}

@@ -1,4 +1,4 @@
-use Rattle.refresh.specs.Fh.{fhBytes}
+use Rattle.links.specs.Fh.{fhBytes}
 use borrow.Author.Needs.{needs}
 use Rattle.refresh.proofs.fh.put_fh.Statement.{statement}
 use Rattle.refresh.proofs.fh.put_fh.Tie as tie

@@ -1,4 +1,4 @@
-use Rattle.refresh.specs.Fh.{fhOf}
+use Rattle.links.specs.Fh.{fhOf}
 use borrow.Author.Needs.{needs}
 use Rattle.refresh.proofs.fh.read_fh.Statement.{statement}
 use Rattle.refresh.proofs.fh.read_fh.Tie as tie

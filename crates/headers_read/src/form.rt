@@ -1,0 +1,51 @@
+ghost use mathlib.Core.Path.{_≡_};
+ghost use Prim.Native.Nat.{_≤_};
+ghost use lib.ListN.{length};
+ghost use Rattle.headers.specs.Checksum.{ipChecksumOf};
+ghost use Rattle.headers.specs.Compressible.{fixedForm, compressible};
+use crate::place::count_at;
+use crate::place::word_at;
+use bytes::sum::add;
+use bytes::sum::sum;
+
+// Whether the bytes have what every full header and every packet that is compressed has in common.
+pub fn fixed_form(p: &[u8]) -> bool
+    requires { ⌜ 40 ≤ length (now p) ⌝ }
+    ensures { λ r. ⌜ r ≡ fixedForm (now (p .entry)) ⌝ }
+{
+    let fragment = word_at(p, 6) & 0x3FFF;
+    (p[0] == 0x45) & (fragment == 0) & (p[9] == 17) & (p[28] >> 6 == 2)
+}
+
+// The IP checksum of the header that stands in the bytes, with total for its length.
+//
+// The length is not read, since a full header has something else in its place.
+pub fn ip_checksum_of(p: &[u8], total: u16) -> u16
+    requires { ⌜ 40 ≤ length (now p) ⌝ }
+    ensures { λ r. ⌜ r ≡ ipChecksumOf (now (p .entry)) total ⌝ }
+{
+    let a = add(sum(0, &p[0..2]), total);
+    let b = sum(a, &p[4..10]);
+    65535 - sum(b, &p[12..20])
+}
+
+// Whether a packet is compressed at all.
+pub fn is_compressible(p: &[u8]) -> bool
+    ensures { λ r. ⌜ r ≡ compressible (now (p .entry)) ⌝ }
+{
+    let n = p.len();
+    if n < 40 {
+        return false;
+    }
+    let total = word_at(p, 2);
+    let right = word_at(p, 10) == ip_checksum_of(p, total);
+    let count = count_at(p, 28);
+    let fits = 12 + 4 * count <= n - 28;
+    let total = total as usize;
+    fixed_form(p)
+        & (total == n)
+        & right
+        & (word_at(p, 24) as usize + 20 == total)
+        & (word_at(p, 22) & 1 == 0)
+        & fits
+}

@@ -1,0 +1,106 @@
+ghost use mathlib.Core.Path.{_≡_};
+ghost use Prim.Native.Nat.{_≤_, _<_, _+_, _*_};
+ghost use lib.ListN.{length};
+ghost use Rattle.headers.specs.Header.{listAt, countAt, rtpAt, flowOf, ipOf, headerOf, headerSize};
+use crate::place::long_at;
+use crate::place::word_at;
+use bytes::flags::split;
+use packet::csrc::Csrc;
+use packet::header::Flow;
+use packet::header::Header;
+use packet::header::Ip;
+use packet::header::Rtp;
+use packet::header::RtpHeader;
+
+// A CSRC list of n words that begins at a place.
+pub fn read_list(s: &[u8], at: usize, n: u8) -> Csrc
+    requires { ⌜ (n ≤ 15) × (at + 4 * n ≤ length (now s)) ⌝ }
+    ensures { λ r. ⌜ r ≡ listAt (now (s .entry)) at n ⌝ }
+{
+    let size = n as usize;
+    let mut list = [0u32; 15];
+    let mut i = 0;
+    while i < size {
+        list[i] = long_at(s, at + 4 * i);
+        i += 1;
+    }
+    Csrc {
+        count: n,
+        words: list,
+    }
+}
+
+// The RTP header that begins at a place.
+pub fn read_rtp(s: &[u8], at: usize) -> RtpHeader
+    requires { ⌜ at + (12 + 4 * countAt (now s) at) ≤ length (now s) ⌝ }
+    ensures { λ r. ⌜ r ≡ rtpAt (now (s .entry)) at ⌝ }
+{
+    let f = split(s[at]);
+    let second = s[at + 1];
+    let list = read_list(s, at + 12, f.low);
+    RtpHeader {
+        ssrc: long_at(s, at + 8),
+        marker: (second >> 7) & 1 == 1,
+        rtp: Rtp {
+            padding: f.c,
+            extension: f.d,
+            payload: second & 127,
+            sequence: word_at(s, at + 2),
+            timestamp: long_at(s, at + 4),
+        },
+        csrc: list,
+    }
+}
+
+fn read_flow(p: &[u8]) -> Flow
+    requires { ⌜ 40 ≤ length (now p) ⌝ }
+    ensures { λ r. ⌜ r ≡ flowOf (now (p .entry)) ⌝ }
+{
+    Flow {
+        source: long_at(p, 12),
+        destination: long_at(p, 16),
+        sport: word_at(p, 20),
+        dport: word_at(p, 22),
+        ssrc: long_at(p, 36),
+    }
+}
+
+fn read_ip(p: &[u8]) -> Ip
+    requires { ⌜ 40 ≤ length (now p) ⌝ }
+    ensures { λ r. ⌜ r ≡ ipOf (now (p .entry)) ⌝ }
+{
+    Ip {
+        tos: p[1],
+        ttl: p[8],
+        flags: p[6] >> 6,
+        id: word_at(p, 4),
+    }
+}
+
+// The header of a packet, or of a full header: no length and no IP checksum is read.
+pub fn read_header(p: &[u8]) -> Header
+    requires { ⌜ 40 + 4 * countAt (now p) 28 ≤ length (now p) ⌝ }
+    ensures { λ r. ⌜ r ≡ headerOf (now (p .entry)) ⌝ }
+{
+    let flow = read_flow(p);
+    let ip = read_ip(p);
+    let r = read_rtp(p, 28);
+    let rtp = r.rtp;
+    let csrc = r.csrc;
+    Header {
+        flow: flow,
+        ip: ip,
+        rtp: rtp,
+        csrc: csrc,
+        marker: r.marker,
+        checksum: word_at(p, 26),
+    }
+}
+
+// How many bytes a header has: where the rest of its packet begins.
+pub fn header_size(h: Header) -> usize
+    ensures { λ r. ⌜ r ≡ headerSize h ⌝ }
+{
+    let list = h.csrc;
+    40 + 4 * (list.count as usize)
+}

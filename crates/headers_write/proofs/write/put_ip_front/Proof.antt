@@ -1,0 +1,44 @@
+use Rattle.headers.specs.Header.{ipFront}
+use native.Mathlib.Omega.{arith}
+use Rattle.bytes.specs.PutLaws.{wrote-then}
+use borrow.Author.Needs.{needs}
+use Rattle.headers_write.proofs.write.put_ip_front.Statement.{statement}
+use Rattle.headers_write.proofs.write.put_ip_front.Tie as tie
+
+fragment-word-requires : tie.Need-fragment-word-requires
+fragment-word-requires c κs = search needs
+
+put8-requires : tie.Need-put8-requires
+put8-requires c κs = search needs
+
+put8-requires-2 : tie.Need-put8-requires-2
+put8-requires-2 c κs = search needs
+
+put16-requires : tie.Need-put16-requires
+put16-requires c κs = search needs
+
+put16-requires-2 : tie.Need-put16-requires-2
+put16-requires-2 c κs = search needs
+
+put16-requires-3 : tie.Need-put16-requires-3
+put16-requires-3 c κs = search needs
+
+same-length : tie.Need-same-length
+same-length c = search needs
+
+returns : tie.Need-returns
+unfolding ipFront
+returns c = (omega arith, wrote-then (c .before .before .before .before .before .before .before .before .before .before .before .before .before .before .before .before .before .before .put8 .ensures) (wrote-then (c .before .before .before .before .before .before .before .before .before .before .before .before .before .before .put82 .ensures) (wrote-then (c .before .before .before .before .before .before .before .before .before .before .put16 .ensures) (wrote-then (c .before .before .before .before .before .before .put162 .ensures) (rw (c .before .before .before .before .before .before .before .before .before .before .before .before .before .before .before .before .before .before .before .before .fragment-word .ensures) at (c .before .before .put163 .ensures))))))
+
+pub put-ip-front-spec : {M : Type 1} → statement M
+put-ip-front-spec =
+    tie.close
+    (tie.spec
+    fragment-word-requires
+    put8-requires
+    put8-requires-2
+    put16-requires
+    put16-requires-2
+    put16-requires-3
+    same-length
+    returns)

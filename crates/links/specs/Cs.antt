@@ -1,0 +1,76 @@
+-- Iarwennol. CONTEXT_STATE (rule 6.6): its bytes, and how a request of any bytes is judged (rule 9.2) and read.
+-- Used by the decompressor's report and by the compressor's request.
+use Prim.Native.Nat.{ℕ, zero, suc, _+_, _*_}
+use mathlib.Core.Bool.{Bool, true, false, cond, not, _||_}
+use mathlib.Core.List.{List, [], _∷_, _++_}
+use lib.Dec.{eqb, leb, ltb}
+use lib.ListN.{length}
+use Rattle.codes.specs.Reading.{byteAt}
+use Rattle.bytes.specs.declared.flags.Flags.{Flags}
+use Rattle.bytes.specs.Flags.{flagsOf, byteOf}
+use Rattle.links.specs.declared.judgement.Judgement.{Judgement}
+use Rattle.links.specs.declared.judgement.Judgement.the-variants.{Good, Cut, Forbidden, NoSuchContext}
+use Rattle.links.specs.Judgement.{firstRefusal}
+
+---- bytes
+
+-- what a report says of one context
+pub record State : Type 0 where
+  pub context : ℕ
+  pub link : ℕ
+  pub generation : ℕ
+
+-- 1, 0, 0, 0, last link sequence
+abbrev pub recordFlags : ℕ → Flags
+recordFlags link = record { a = true; b = false; c = false; d = false; low = link }
+
+abbrev pub recordBytes : (context link generation : ℕ) → List ℕ
+recordBytes context link generation = context ∷ byteOf (recordFlags link) ∷ generation ∷ []
+
+abbrev pub recordsBytes : List State → List ℕ
+recordsBytes [] = []
+recordsBytes (r ∷ rs) = recordBytes (r .context) (r .link) (r .generation) ++ recordsBytes rs
+
+-- type code, count, records
+unfoldable pub csBytes : List State → List ℕ
+csBytes rs = 1 ∷ length rs ∷ recordsBytes rs
+
+---- what a request says
+
+abbrev pub recordCount : List ℕ → ℕ
+recordCount s = byteAt s 1
+
+-- where record i stands, its context number, and whether it asks for full headers
+abbrev pub recordAt : ℕ → ℕ
+recordAt i = 2 + 3 * i
+
+abbrev pub recordContext : List ℕ → ℕ → ℕ
+recordContext s i = byteAt s (recordAt i)
+
+abbrev pub recordAsks : List ℕ → ℕ → Bool
+recordAsks s i = flagsOf (byteAt s (recordAt i + 1)) .a
+
+---- how it is judged (rule 9.2)
+
+-- a bit is set that rule 6.6 has as 0
+abbrev pub bitsForbidden : Flags → (generation : ℕ) → Bool
+bitsForbidden f generation = f .b || f .c || f .d || leb 64 generation
+
+-- k: how many contexts there are
+unfoldable pub recordWith : (k context : ℕ) → Flags → (generation : ℕ) → Judgement
+recordWith k context f generation = cond (leb k context) NoSuchContext (cond (bitsForbidden f generation) Forbidden Good)
+
+unfoldable pub recordJudged : (k : ℕ) → List ℕ → ℕ → Judgement
+recordJudged k s i = recordWith k (recordContext s i) (flagsOf (byteAt s (recordAt i + 1))) (byteAt s (recordAt i + 2))
+
+-- n records from record i on: the first that is refused
+abbrev pub recordsJudged : (k : ℕ) → List ℕ → (i n : ℕ) → Judgement
+recordsJudged k s i zero = Good
+recordsJudged k s i (suc n) = firstRefusal (recordJudged k s i) (recordsJudged k s (suc i) n)
+
+unfoldable pub requestJudged : (k : ℕ) → List ℕ → Judgement
+requestJudged k s =
+    cond (ltb (length s) 2) Cut
+    (cond (not (eqb (byteAt s 0) 1) || eqb (recordCount s) 0) Forbidden
+    (cond (not (eqb (length s) (2 + 3 * recordCount s))) Cut
+    (recordsJudged k s 0 (recordCount s))))

@@ -1,0 +1,23 @@
+use Rattle.links.specs.Cr.{secondOf, secondWith}
+use native.Mathlib.Omega.{arith}
+use mathlib.Core.Path.{refl}
+use borrow.Author.Needs.{needs}
+use Rattle.links_read.proofs.cr.read_second.Statement.{statement}
+use Rattle.links_read.proofs.cr.read_second.Tie as tie
+
+next-byte-requires : tie.Need-next-byte-requires
+next-byte-requires c κs = search needs
+
+split-requires : tie.Need-split-requires
+split-requires c κs = search needs
+
+returns : tie.Need-returns
+unfolding secondOf secondWith
+returns c = rw (← c .before .before .before .before .next-byte .ensures, ← c .before .split .ensures .0, c .if1 .taken) (refl, c .before .split .ensures .1)
+
+returns-2 : tie.Need-returns-2
+unfolding secondOf secondWith
+returns-2 c = rw (← c .before .before .before .before .next-byte .ensures, ← c .before .split .ensures .0, c .if1 .left) (refl, omega arith)
+
+pub read-second-spec : {M : Type 1} → statement M
+read-second-spec = tie.close (tie.spec next-byte-requires split-requires returns returns-2)

@@ -1,0 +1,46 @@
+ghost use Prim.Native.Nat.{_≤_};
+ghost use lib.ListN.{length};
+use crate::call::run_open;
+use crate::call::run_request;
+use crate::call::run_send;
+use crate::ran::Ran;
+use crate::ran::unknown;
+use crate::row::run_write;
+use crate::row::show;
+use compressor::table::Table;
+use script_text::word::Word;
+use script_text::word::name_index;
+
+// Which of the compressor's calls the first word of a line names; 5 for none.
+pub fn call_at(line: &[u8], w: Word) -> usize
+    requires { ⌜ (w .at ≤ w .end) × (w .end ≤ length (now line)) ⌝ }
+{
+    name_index(b"s q os ws ds", line, w)
+}
+
+// One line without its line end, whose first word names this call.
+pub fn run_line(
+    call: usize,
+    t: Table,
+    line: &[u8],
+    w: Word,
+    input: &mut [u8],
+    output: &mut [u8],
+    text: &mut [u8],
+    at: usize,
+) -> Ran
+    requires { ⌜ at ≤ length (now text) ⌝ }
+    ensures { λ r. ⌜ r .at ≤ length (now (text .exit)) ⌝ }
+{
+    match call {
+        0 => run_send(t, line, w, input, output, text, at),
+        1 => run_request(t, line, w, input, text, at),
+        2 => run_open(t, line, w, text, at),
+        3 => run_write(t, line, w, text, at),
+        4 => {
+            let n = show(t, line, w, text, at);
+            Ran { table: t, at: n }
+        }
+        _ => unknown(t, text, at),
+    }
+}

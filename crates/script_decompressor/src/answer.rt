@@ -1,0 +1,42 @@
+ghost use Prim.Native.Nat.{_≤_};
+ghost use lib.ListN.{length};
+use decompressor::answer::Outcome;
+use script_fields::refusal::refusal_number;
+use script_text::answer::put_output;
+use script_text::text::put_number;
+
+// An outcome as the numbers that a script shows.
+pub struct Shown {
+    pub number: u64,
+    pub length: usize,
+}
+
+fn numbers_of(o: Outcome) -> Shown {
+    match o {
+        Outcome::Accepted(n) => Shown {
+            number: 0,
+            length: n,
+        },
+        Outcome::Refused(r) => Shown {
+            number: refusal_number(r),
+            length: 0,
+        },
+    }
+}
+
+pub fn put_opened(text: &mut [u8], at: usize, o: Outcome) -> usize
+    requires { ⌜ at ≤ length (now text) ⌝ }
+    ensures { λ r. ⌜ r ≤ length (now (text .exit)) ⌝ }
+{
+    let s = numbers_of(o);
+    put_number(text, at, s.number)
+}
+
+pub fn put_answer(text: &mut [u8], at: usize, o: Outcome, output: &[u8]) -> usize
+    requires { ⌜ at ≤ length (now text) ⌝ }
+    ensures { λ r. ⌜ r ≤ length (now (text .exit)) ⌝ }
+{
+    let s = numbers_of(o);
+    let a = put_number(text, at, s.number);
+    put_output(text, a, output, s.length)
+}

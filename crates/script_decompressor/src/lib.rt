@@ -1,0 +1,10 @@
+// The decompressor's calls as lines of a script: or, r, p, wr, dr.
+//
+// What a call does is the business of `decompressor` and `report`, its text that of `script_text`; here a line finds its call, the call gets the
+// table, and what it answers becomes text.
+// Read `line::run_line` first.
+pub mod answer;
+pub mod call;
+pub mod line;
+pub mod ran;
+pub mod row;
