@@ -4,12 +4,13 @@ ghost use Rattle.context.specs.Field.{nextGeneration};
 ghost use Rattle.context.specs.Compressor.{sameBit, sameConstants, started, begun, startedUnlessDue, requested};
 use context::compressor::CompressorContext;
 use context::compressor::Usage;
+use context::kept::Link;
 use packet::header::Header;
 
 fn next_generation(g: u8) -> u8
     ensures { λ r. ⌜ r ≡ nextGeneration g ⌝ }
 {
-    (g % 64 + 1) % 64
+    (g % Link::GENERATIONS + 1) % Link::GENERATIONS
 }
 
 // The one place where a run starts afresh, for a packet and for a request.

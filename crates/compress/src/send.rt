@@ -1,5 +1,6 @@
 ghost use mathlib.Core.Path.{_≡_};
-ghost use Rattle.context.specs.Compressor.{kindOf, listIf, partsOf};
+ghost use Rattle.context.specs.Compressor.{kindOf, checksumSent, listIf, partsOf};
+use context::compressor::CompressorContext;
 use context::kept::Deltas;
 use context::step::DueNow;
 use context::step::Kind;
@@ -17,6 +18,13 @@ pub fn choose_kind(full: u8, any: bool) -> Kind
         return Kind::CompressedUdp;
     }
     Kind::CompressedRtp
+}
+
+// Whether a CU or CR on this context has the UDP checksum.
+pub fn sends_checksum(c: CompressorContext) -> bool
+    ensures { λ r. ⌜ r ≡ checksumSent c ⌝ }
+{
+    !c.blank
 }
 
 fn list_if(any: bool, l: Csrc) -> Csrc

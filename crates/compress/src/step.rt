@@ -20,7 +20,7 @@ use packet::header::Header;
 fn next_sequence(s: u8) -> u8
     ensures { λ r. ⌜ r ≡ nextSequence s ⌝ }
 {
-    (s % 16 + 1) % 16
+    (s % Link::SEQUENCES + 1) % Link::SEQUENCES
 }
 
 fn keep_deltas(kept: Deltas, j: Judged) -> Deltas

@@ -4,8 +4,9 @@ use Prim.Native.Nat.{ℕ, zero, suc}
 use mathlib.Core.Bool.{Bool, cond}
 use mathlib.Core.List.{List, []}
 use lib.ListN.{getD, set}
-use Rattle.links.specs.declared.judgement.Judgement.{Judgement}
-use Rattle.links.specs.declared.judgement.Judgement.the-variants.{Good, Cut, Forbidden, NoSuchContext}
+use Rattle.packet.specs.declared.refusal.Verdict.{Verdict}
+use Rattle.packet.specs.declared.refusal.Verdict.the-variants.{Accepted, Refused}
+use Rattle.packet.specs.Refusal.{numberOf}
 use Rattle.links.specs.Cs.{requestJudged, recordCount, recordContext, recordAsks}
 use Rattle.context.specs.Compressor.{requested}
 use Rattle.context.specs.declared.compressor.CompressorContext.{CompressorContext}
@@ -26,11 +27,9 @@ askedAll n s cs (suc i) = asked n (recordAsks s i) (recordContext s i) (askedAll
 abbrev pub requestTable : Table → List ℕ → Table
 requestTable t s = record { settings = t .settings; contexts = askedAll (t .settings .repeats) s (t .contexts) (recordCount s) }
 
-abbrev pub requestBy : Judgement → Table → List ℕ → Result
-requestBy Good t s = accepted (requestTable t s) 0 [] []
-requestBy Cut t s = refused t 4 []
-requestBy Forbidden t s = refused t 5 []
-requestBy NoSuchContext t s = refused t 6 []
+abbrev pub requestBy : Verdict → Table → List ℕ → Result
+requestBy Accepted t s = accepted (requestTable t s) 0 [] []
+requestBy (Refused r) t s = refused t (numberOf r) []
 
 -- rule 9.2: 1, then by the bytes
 unfoldable pub requestOf : Table → List ℕ → Result

@@ -12,8 +12,8 @@ use lib.Dec.{eqb}
 use lib.ListN.{length, getD, set, drop, length-set, length-drop}
 use lib.Seq.{set-getD, getD-set-same, getD-set-other, set-out, getD-drop}
 use Rattle.links.specs.Cs.{recordCount, recordContext, recordAsks, requestJudged}
-use Rattle.links.specs.declared.judgement.Judgement.{Judgement}
-use Rattle.links.specs.declared.judgement.Judgement.the-variants.{Good, Cut, Forbidden, NoSuchContext}
+use Rattle.packet.specs.declared.refusal.Verdict.{Verdict}
+use Rattle.packet.specs.declared.refusal.Verdict.the-variants.{Accepted, Refused}
 use Rattle.context.specs.All.{all}
 use Rattle.context.specs.Sound.{soundCompressor}
 use Rattle.context.proofs.CompressorSound.{sound-requested, requested-kept}
@@ -65,7 +65,7 @@ module _ (t : Table) (s : List ℕ) where
   unfolding requestOf
   requestOf-unsound e = rw e
 
-  pub requestOf-judged : (j : Judgement) → soundOf t ≡ true → requestJudged (t .settings .contexts) s ≡ j → requestBy j t s ≡ requestOf t s
+  pub requestOf-judged : (j : Verdict) → soundOf t ≡ true → requestJudged (t .settings .contexts) s ≡ j → requestBy j t s ≡ requestOf t s
   unfolding requestOf
   requestOf-judged j e q = rw (e, q)
 
@@ -115,11 +115,9 @@ asks-table t s = record {
   keeps = λ P step i before. askedAll-keeps (t .settings .repeats) P step s (t .contexts) (recordCount s) i before;
 }
 
-asks-by : (t : Table) (s : List ℕ) (j : Judgement) → Asks t (requestBy j t s .table)
-asks-by t s Good = asks-table t s
-asks-by t s Cut = asks-nothing t
-asks-by t s Forbidden = asks-nothing t
-asks-by t s NoSuchContext = asks-nothing t
+asks-by : (t : Table) (s : List ℕ) (j : Verdict) → Asks t (requestBy j t s .table)
+asks-by t s Accepted = asks-table t s
+asks-by t s (Refused r) = asks-nothing t
 
 asks-sound : (t : Table) (s : List ℕ) (b : Bool) → soundOf t ≡ b → Asks t (requestOf t s .table)
 unfolding requestOf
@@ -131,13 +129,11 @@ request-asks t s = asks-sound t s (soundOf t) refl
 
 ---- a request refused, and a sound table
 
-refused-by : (t : Table) (s : List ℕ) (j : Judgement) → 1 ≤ requestBy j t s .number → requestBy j t s .table ≡ t
-refused-by t s Good h = absurd (omega arith)
-refused-by t s Cut h = refl
-refused-by t s Forbidden h = refl
-refused-by t s NoSuchContext h = refl
+refused-by : (t : Table) (s : List ℕ) (j : Verdict) → 1 ≤ requestBy j t s .number → requestBy j t s .table ≡ t
+refused-by t s Accepted h = absurd (omega arith)
+refused-by t s (Refused r) h = refl
 
-refused-sound : (t : Table) (s : List ℕ) (b : Bool) (j : Judgement) → 1 ≤ cond b (requestBy j t s) (refused t 1 []) .number → cond b (requestBy j t s) (refused t 1 []) .table ≡ t
+refused-sound : (t : Table) (s : List ℕ) (b : Bool) (j : Verdict) → 1 ≤ cond b (requestBy j t s) (refused t 1 []) .number → cond b (requestBy j t s) (refused t 1 []) .table ≡ t
 refused-sound t s true j h = refused-by t s j h
 refused-sound t s false j h = refl
 

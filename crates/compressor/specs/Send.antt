@@ -1,15 +1,16 @@
 -- Iarwennol. A send (rules 3.2, 5.3 to 5.5, 8): what the compressor makes of a packet.
 -- Used by the contract of send, and by the theorem on lists of calls (crtp), which is about this very definition.
 use Prim.Native.Nat.{ℕ}
-use mathlib.Core.Bool.{Bool, cond, _&&_}
+use mathlib.Core.Bool.{cond}
 use mathlib.Core.List.{List, _++_}
-use lib.Dec.{leb}
 use lib.ListN.{length, drop}
 use Rattle.packet.specs.declared.header.Header.{Header}
 use Rattle.headers.specs.Header.{headerOf, headerSize}
 use Rattle.headers.specs.Compressible.{compressible}
+use Rattle.settings.specs.Settings.{lengthAllowed}
 use Rattle.context.specs.declared.step.Step.{Step}
-pub use Rattle.outgoing.specs.Outgoing.{stepBy, kindNumber, linkBy}
+pub use Rattle.context.specs.Compressor.{kindNumber}
+pub use Rattle.outgoing.specs.Outgoing.{stepBy, linkBy}
 unfoldable pub use Rattle.outgoing.specs.Outgoing.{stepOn, linkBytes}
 use Rattle.compressor.specs.declared.lookup.Found.{Found}
 use Rattle.compressor.specs.declared.lookup.Found.the-variants.{At, Nowhere}
@@ -41,15 +42,11 @@ abbrev pub sendTo : Found → Table → (p output : List ℕ) → Result
 sendTo (At i) t p output = sendAt t i p output
 sendTo Nowhere t p output = sendPlain t p output
 
--- rule 1.4
-abbrev pub lengthAllowed : List ℕ → Bool
-lengthAllowed p = leb 1 (length p) && leb (length p) 1500
-
 -- rule 3.2: 1, 2, 11
 unfoldable pub sendOf : Table → (p output : List ℕ) → Result
 sendOf t p output =
     cond (soundOf t)
-    (cond (lengthAllowed p)
+    (cond (lengthAllowed (length p))
     (cond (compressible p) (sendTo (placeOf t (headerOf p .flow)) t p output) (sendPlain t p output))
     (refused t 2 output))
     (refused t 1 output)

@@ -23,7 +23,8 @@ use Rattle.compressor.specs.Answer.{Result, accepted, refused, delivered
 use Rattle.compressor.specs.Table.{noContext, contextAt, withContext, isEmpty, emptyBy, soundOf}
 use Rattle.compressor.specs.Lookup.{sameFlow, isOf, lowest, orElse, placeOf}
 use Rattle.compressor.specs.LookupLaws.{lowest-found}
-use Rattle.compressor.specs.Send.{stepOn, kindNumber, sentBytes, sendAt, sendPlain, sendTo, lengthAllowed, sendOf}
+use Rattle.settings.specs.Settings.{lengthAllowed}
+use Rattle.compressor.specs.Send.{stepOn, kindNumber, sentBytes, sendAt, sendPlain, sendTo, sendOf}
 
 ---- placeOf
 

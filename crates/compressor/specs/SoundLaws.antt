@@ -18,6 +18,7 @@ use Rattle.headers.specs.Header.{headerOf, flowOf, headerSize}
 use Rattle.headers.specs.HeaderLaws.{headerOf-range}
 use Rattle.headers.specs.Compressible as headers
 use Rattle.headers.specs.CompressibleLaws.{compressible-true}
+use Rattle.settings.specs.Settings.{lengthAllowed}
 use Rattle.context.specs.Sound.{soundCompressor, emptyCompressor}
 use Rattle.context.specs.declared.compressor.CompressorContext.{CompressorContext}
 use Rattle.context.specs.declared.step.Kind.{Kind}
@@ -29,7 +30,7 @@ use Rattle.compressor.specs.Answer.{Result, refused, accepted, delivered
 use Rattle.compressor.specs.Table.{noContext, contextAt, withContext, soundOf, emptyTable, openBy, openOf}
 use Rattle.compressor.specs.TableLaws.{Sound, soundOf-true, sound-withContext, sound-emptyTable, openOf-accepted}
 use Rattle.compressor.specs.Lookup.{placeOf}
-use Rattle.compressor.specs.Send.{stepOn, kindNumber, sentBytes, sendAt, sendPlain, sendTo, lengthAllowed, sendOf}
+use Rattle.compressor.specs.Send.{stepOn, kindNumber, sentBytes, sendAt, sendPlain, sendTo, sendOf}
 use Rattle.compressor.specs.SendLaws.{On, stepAt, sentOn, Goes, goes-refused, goes-plain, goes-on, sendOf-goes}
 use Rattle.outgoing.specs.SizeLaws.{linkSize-most}
 use Rattle.compressor.specs.Ready.{Ready}
@@ -47,7 +48,7 @@ module _ (t : Table) (n k : ℕ) where
   length-open e = rw (openOf-accepted t n k e .1) (length-replicate 64 emptyCompressor)
 
   openBy-refused : (x : Opened) → 1 ≤ openBy t x .number → openBy t x .table ≡ t
-  openBy-refused (opened.Ready s) h = absurd (omega arith)
+  openBy-refused (opened.Accepted s) h = absurd (omega arith)
   openBy-refused opened.Refused h = refl
 
   pub open-refused : 1 ≤ openOf t n k .number → openOf t n k .table ≡ t
@@ -137,7 +138,7 @@ module _ (t : Table) (p output : List ℕ) (j : ℕ) where
   -- a send leaves every context but that of its packet
   pub send-others : (placeOf t (headerOf p .flow) ≡ At j → ⊥) → contextAt (sendOf t p output .table) j ≡ contextAt t j
   unfolding sendOf
-  send-others h = others-by (soundOf t) (lengthAllowed p) (headers.compressible p) h
+  send-others h = others-by (soundOf t) (lengthAllowed (length p)) (headers.compressible p) h
 
 ---- sendOf: what is given out
 

@@ -11,7 +11,7 @@ use crate::answer::Answer;
 use crate::answer::Outcome;
 use context::compressor::CompressorContext;
 use context::compressor::Usage;
-use context::refusal::Refusal;
+use packet::refusal::Refusal;
 use settings::Opened;
 use settings::Settings;
 use soundness::compressor::empty_context;
@@ -20,7 +20,7 @@ use soundness::compressor::sound_context;
 // The compressor's contexts, with what it was opened with. Places from `settings.contexts` on stay empty.
 pub struct Table {
     pub settings: Settings,
-    pub contexts: [CompressorContext; 64],
+    pub contexts: [CompressorContext; Settings::PLACES],
 }
 
 pub fn is_empty(c: CompressorContext) -> bool
@@ -43,7 +43,7 @@ fn all_sound(t: Table) -> bool
     let k = t.settings.contexts as usize;
     let mut ok = true;
     let mut i = 0;
-    while i < 64 {
+    while i < Settings::PLACES {
         let c = t.contexts[i];
         ok = ok & sound_context(n, c) & (is_empty(c) | (i < k));
         i += 1;
@@ -68,7 +68,7 @@ fn empty_table(s: Settings) -> Table
     let c = empty_context();
     Table {
         settings: s,
-        contexts: [c; 64],
+        contexts: [c; Settings::PLACES],
     }
 }
 
@@ -87,7 +87,7 @@ pub fn open(t: Table, n: u32, k: u32) -> Answer
     ensures { λ r. ⌜ said r [] ≡ openOf t n k ⌝ }
 {
     match Settings::open(n, k) {
-        Opened::Ready(s) => Answer {
+        Opened::Accepted(s) => Answer {
             outcome: Outcome::Accepted(0, 0),
             table: empty_table(s),
         },

@@ -124,6 +124,7 @@ module _ (n : ℕ) (v : DecompressorContext) (h : Header) (c : CompressorContext
   full-arrives f r =
       let any = anyDue (dueNow (c .due) (judged h c)) in
       record {
+        gap = 1;
         after = filled h (c .link);
         accepts = ap (λ (k : Kind). received k n h (c .link) (sentFrom n h c .parts) v) (kind-full f any);
         exact = filled-exact h (c .link);
@@ -201,11 +202,13 @@ module _ (n j : ℕ) (v : DecompressorContext) (h : Header) (c : CompressorConte
   part-arrives most z =
       let any = anyDue (dueNow (c .due) (judged h c)) in
       record {
+        gap = suc j;
         after = standing (c .link .sequence) (v .link .generation) (v .filled) h (deltasAfter (c .deltas) (judged h c));
         accepts =
             ap (λ (k : Kind). received k n h (c .link) (sentFrom n h c .parts) v) (kind-part z any)
             ∙ received-part any n h (c .link) (sentFrom n h c .parts) v
-            ∙ applied-in-step n j (c .link .sequence) v _ (sentFrom n h c .parts) (m .status) (gap-lost (v .link .sequence) (c .link .sequence) j (omega arith) (m .bound) (m .sequence)) few arrived;
+            ∙ applied-in-step n j (c .link .sequence) v _ (sentFrom n h c .parts)
+            (gap-lost (v .link .sequence) (c .link .sequence) j (omega arith) (m .bound) (m .sequence)) few arrived;
         exact = standing-exact (c .link .sequence) (v .link .generation) (v .filled) h (deltasAfter (c .deltas) (judged h c));
         live = λ e. m .status;
         carries = λ e. m .constants .carried ∙ ap not (sym (g .blank));

@@ -9,18 +9,16 @@ use Rattle.packet.specs.declared.csrc.Csrc.{Csrc}
 use Rattle.packet.specs.declared.header.Header.{Header}
 use Rattle.packet.specs.declared.header.RtpHeader.{RtpHeader}
 use Rattle.packet.specs.declared.parts.Parts.{Parts}
-use Rattle.context.specs.Field.{gap}
-use Rattle.context.specs.Decompressor.{filled, outcomeOf, ipAfter, rtpAfter, deltasHeld, advanced, advancedWhole, broke, settled, applied, appliedWhole}
+use Rattle.context.specs.Decompressor.{filled, gapVerdict, gapOf, ipAfter, rtpAfter, deltasHeld, advanced, advancedWhole, broke, settled, applied, appliedWhole}
 use Rattle.context.specs.Range.{HeaderFits, PartsSound, WholeSound}
 use Rattle.context.specs.Sound.{soundList, soundLink, filledSound, unfilledSound, soundDecompressorBy, soundDecompressor, emptyDecompressor, zeroList}
 use Rattle.context.specs.declared.kept.Link.{Link}
 use Rattle.context.specs.declared.decompressor.Status.{Status}
 use Rattle.context.specs.declared.decompressor.Status.the-variants.{Empty, Live, Broken}
 use Rattle.context.specs.declared.decompressor.DecompressorContext.{DecompressorContext}
-use Rattle.context.specs.declared.decompressor.Outcome.{Outcome}
-use Rattle.context.specs.declared.decompressor.Outcome.the-variants.{Accepted, Refused}
+use Rattle.packet.specs.declared.refusal.Verdict.{Verdict}
+use Rattle.packet.specs.declared.refusal.Verdict.the-variants.{Accepted, Refused}
 use Rattle.context.proofs.Tests.{cond-when}
-use Rattle.context.proofs.Gap.{outcome-live}
 use Rattle.context.proofs.SoundFacts.{soundLink-bounds, FilledBounds, filledSound-bounds, bounds-filledSound, hasCode-zero}
 
 ---- A live context is sound where it is filled and its fields are in range
@@ -106,18 +104,20 @@ sound-broke c s = broke-by (c .status) c s
 
 ---- applied, appliedWhole
 
-sound-settled : (o : Outcome) (c next : DecompressorContext) → (o ≡ Accepted → soundDecompressor next ≡ true) → soundDecompressor c ≡ true → soundDecompressor (settled o c next .context) ≡ true
+sound-settled : (o : Verdict) (g : ℕ) (c next : DecompressorContext) → soundDecompressor next ≡ true → soundDecompressor c ≡ true
+    → soundDecompressor (settled o g c next .context) ≡ true
 unfolding settled
-sound-settled Accepted c next f s = f refl
-sound-settled (Refused r) c next f s = sound-broke c s
+sound-settled Accepted g c next f s = f
+sound-settled (Refused r) g c next f s = sound-broke c s
 
-pub sound-applied : (n q : ℕ) (c : DecompressorContext) (p : Parts) → q ≤ 15 → PartsSound p → soundDecompressor c ≡ true → soundDecompressor (applied n q c p .context) ≡ true
-unfolding applied
-sound-applied n q c p small a s = sound-settled (outcomeOf n q c) c (advanced (gap (c .link .sequence) q) q c p)
-    (λ e. sound-advanced (gap (c .link .sequence) q) q c p small a (outcome-live n q c e) s) s
+module _ (n q : ℕ) (c : DecompressorContext) (p : Parts) (small : q ≤ 15) (a : PartsSound p) (live : c .status ≡ Live)
+    (s : soundDecompressor c ≡ true) where
+  pub sound-applied : soundDecompressor (applied n q c p .context) ≡ true
+  unfolding applied
+  sound-applied =
+      sound-settled (gapVerdict n (gapOf q c)) (gapOf q c) c (advanced (gapOf q c) q c p) (sound-advanced (gapOf q c) q c p small a live s) s
 
-pub sound-appliedWhole : (n q : ℕ) (c : DecompressorContext) (p : Parts) (w : RtpHeader) → q ≤ 15 → PartsSound p → WholeSound w → soundDecompressor c ≡ true →
-    soundDecompressor (appliedWhole n q c p w .context) ≡ true
-unfolding appliedWhole
-sound-appliedWhole n q c p w small a t s = sound-settled (outcomeOf n q c) c (advancedWhole (gap (c .link .sequence) q) q c p w)
-    (λ e. sound-whole (gap (c .link .sequence) q) q c p w small a t (outcome-live n q c e) s) s
+  pub sound-appliedWhole : (w : RtpHeader) → WholeSound w → soundDecompressor (appliedWhole n q c p w .context) ≡ true
+  unfolding appliedWhole
+  sound-appliedWhole w t =
+      sound-settled (gapVerdict n (gapOf q c)) (gapOf q c) c (advancedWhole (gapOf q c) q c p w) (sound-whole (gapOf q c) q c p w small a t live s) s

@@ -56,6 +56,7 @@ first-close n h l small = record {
 pub related-first-arrives : (n : ℕ) (v : DecompressorContext) (h : Header) (l : Link) → HeaderFits h → l .sequence < 16 → Arrives n v h (firstStep n h l)
 unfolding firstStep partsOf
 related-first-arrives n v h l f small = record {
+  gap = 1;
   after = filled h l;
   accepts = refl;
   exact = filled-exact h l;

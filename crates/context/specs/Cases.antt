@@ -11,8 +11,9 @@ use Rattle.packet.specs.declared.header.Header.{Header}
 use Rattle.packet.specs.declared.parts.Parts.{Parts}
 use Rattle.context.specs.Field.{nextSequence, nextGeneration, offPattern, counted, isDue, gap, movedOn}
 use Rattle.context.specs.Compressor.{first, started, sameConstants, begun, startedUnlessDue, requested, reset, adoptsId, adoptsTimestamp, judged, dueNow, anyDue, kindOf, listIf, partsOf, dueAfter, deltasAfter, moved, sentWith, stepOf}
-use Rattle.context.specs.Decompressor.{filled, gapOutcome, outcomeBy, outcomeOf, outcomeNumber, ipAfter, rtpAfter, deltasHeld, advanced, broke, settled, applied, rebuilt}
-use Rattle.context.specs.Sound.{emptyCompressor, emptyDecompressor}
+use Rattle.packet.specs.Refusal.{verdictNumber}
+use Rattle.context.specs.Decompressor.{filled, gapVerdict, ipAfter, rtpAfter, deltasHeld, advanced, broke, settled, applied, rebuilt}
+use Rattle.context.specs.Sound.{emptyCompressor}
 use Rattle.context.specs.declared.step.Kind.the-variants.{FullHeader, CompressedUdp, CompressedRtp}
 use Rattle.context.specs.declared.compressor.CompressorContext.{CompressorContext}
 use Rattle.context.specs.declared.decompressor.DecompressorContext.{DecompressorContext}
@@ -119,19 +120,15 @@ pub record Compressing : Type 0 where
 
 pub record Rebuilding : Type 0 where
   -- rule 11.2: N 14, fourteen lost, gap 15, accepted, with fifteen steps; gap 0 is refused with 9
-  pub far : outcomeNumber (applied 14 15 heard nothing .outcome) ≡ 0
+  pub far : verdictNumber (applied 14 15 heard nothing .verdict) ≡ 0
   pub far-id : applied 14 15 heard nothing .context .ip .id ≡ 16
   pub far-sequence : applied 14 15 heard nothing .context .rtp .sequence ≡ 22
-  pub again : outcomeNumber (applied 14 0 heard nothing .outcome) ≡ 9
+  pub again : verdictNumber (applied 14 0 heard nothing .verdict) ≡ 9
   -- rules 7.4, 12.1: gap 3 and a difference of 5: two steps of 1, and one of 5, which is kept
   pub three-steps : applied 2 3 heard (bringing true 5) .context .ip .id ≡ 8
   pub three-kept : applied 2 3 heard (bringing true 5) .context .deltas .id ≡ 5
   -- rule 3.1: N 1 and gap 3
-  pub too-far : outcomeNumber (applied 1 3 heard nothing .outcome) ≡ 9
-  -- rules 7.2, 12.1: no gap is looked at but a live context's
-  pub broken : outcomeNumber (applied 14 0 (broke heard) nothing .outcome) ≡ 8
-  pub empty : outcomeNumber (applied 14 0 emptyDecompressor nothing .outcome) ≡ 8
-  pub empty-in-step : outcomeNumber (applied 14 1 emptyDecompressor nothing .outcome) ≡ 8
+  pub too-far : verdictNumber (applied 1 3 heard nothing .verdict) ≡ 9
   -- rules 7.6, 7.8: the marker is taken; the checksum is 0 where none is carried
   pub marked : rebuilt (applied 2 1 heard nothing .context) 77 ≡ record {
     flow = voice 2 8 10 .flow;
@@ -166,7 +163,7 @@ compressing = record {
 }
 
 pub rebuilding : Rebuilding
-unfolding sum gap movedOn filled gapOutcome outcomeBy outcomeOf ipAfter rtpAfter deltasHeld advanced broke settled applied rebuilt emptyDecompressor
+unfolding sum gap movedOn filled gapVerdict ipAfter rtpAfter deltasHeld advanced broke settled applied rebuilt
 rebuilding = record {
   far = refl;
   far-id = refl;
@@ -175,8 +172,5 @@ rebuilding = record {
   three-steps = refl;
   three-kept = refl;
   too-far = refl;
-  broken = refl;
-  empty = refl;
-  empty-in-step = refl;
   marked = refl;
 }

@@ -188,10 +188,14 @@ unfoldable pub kindOf : (full : ℕ) (any : Bool) → Kind
 kindOf full any = cond (ltb 0 full) FullHeader (cond any CompressedUdp CompressedRtp)
 
 -- rule 1.1: the link type beside the bytes
-abbrev pub typeOf : Kind → ℕ
-typeOf FullHeader = 1
-typeOf CompressedUdp = 2
-typeOf CompressedRtp = 3
+abbrev pub kindNumber : Kind → ℕ
+kindNumber FullHeader = 1
+kindNumber CompressedUdp = 2
+kindNumber CompressedRtp = 3
+
+-- rules 6.2, 6.3: a CU or CR on this context has the UDP checksum in the checksum's place, else nothing
+abbrev pub checksumSent : CompressorContext → Bool
+checksumSent c = not (c .blank)
 
 -- rule 8.8: every CU has the list
 unfoldable pub listIf : Bool → Csrc → Csrc

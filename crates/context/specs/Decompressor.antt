@@ -10,16 +10,14 @@ use Rattle.packet.specs.declared.header.Ip.{Ip}
 use Rattle.packet.specs.declared.header.Rtp.{Rtp}
 use Rattle.packet.specs.declared.parts.Parts.{Parts}
 use Rattle.context.specs.Field.{gap, movedOn}
-use Rattle.context.specs.Refusal.{numberOf}
 use Rattle.context.specs.declared.kept.Deltas.{Deltas}
 use Rattle.context.specs.declared.kept.Link.{Link}
-use Rattle.context.specs.declared.refusal.Refusal.{Refusal}
-use Rattle.context.specs.declared.refusal.Refusal.the-variants.{NotLive, OutOfStep}
-use Rattle.context.specs.declared.decompressor.Status.{Status}
-use Rattle.context.specs.declared.decompressor.Status.the-variants.{Empty, Live, Broken}
+use Rattle.packet.specs.declared.refusal.Refusal.{Refusal}
+use Rattle.packet.specs.declared.refusal.Refusal.the-variants.{OutOfStep}
+use Rattle.context.specs.declared.decompressor.Status.the-variants.{Live, Broken}
 use Rattle.context.specs.declared.decompressor.DecompressorContext.{DecompressorContext}
-use Rattle.context.specs.declared.decompressor.Outcome.{Outcome}
-use Rattle.context.specs.declared.decompressor.Outcome.the-variants.{Accepted, Refused}
+use Rattle.packet.specs.declared.refusal.Verdict.{Verdict}
+use Rattle.packet.specs.declared.refusal.Verdict.the-variants.{Accepted, Refused}
 use Rattle.context.specs.declared.decompressor.Applied.{Applied}
 
 ---- A full header
@@ -48,22 +46,8 @@ furthest n = n + 1
 abbrev pub outOfStep : (n g : ℕ) → Bool
 outOfStep n g = eqb g 0 || ltb (furthest n) g
 
-unfoldable pub gapOutcome : (n g : ℕ) → Outcome
-gapOutcome n g = cond (outOfStep n g) (Refused OutOfStep) Accepted
-
--- rules 7.2, 3.1: only a live context has its gap looked at
-unfoldable pub outcomeBy : Status → (n q : ℕ) → DecompressorContext → Outcome
-outcomeBy Empty n q c = Refused NotLive
-outcomeBy Live n q c = gapOutcome n (gap (c .link .sequence) q)
-outcomeBy Broken n q c = Refused NotLive
-
-unfoldable pub outcomeOf : (n q : ℕ) → DecompressorContext → Outcome
-outcomeOf n q c = outcomeBy (c .status) n q c
-
--- rule 3.1: the number of an outcome
-abbrev pub outcomeNumber : Outcome → ℕ
-outcomeNumber Accepted = 0
-outcomeNumber (Refused r) = numberOf r
+unfoldable pub gapVerdict : (n g : ℕ) → Verdict
+gapVerdict n g = cond (outOfStep n g) (Refused OutOfStep) Accepted
 
 ---- The fields after a CU or CR
 
@@ -146,25 +130,34 @@ broke c = record {
   link = c .link;
 }
 
--- rule 3.1: both refusals break the context
-abbrev pub refusedAs : Refusal → DecompressorContext → Applied
-refusedAs r c = record { outcome = Refused r; context = broke c }
+-- rule 3.1: a refusal breaks the context; g: the gap
+abbrev pub refusedAs : Refusal → (g : ℕ) → DecompressorContext → Applied
+refusedAs r g c = record { verdict = Refused r; gap = g; context = broke c }
 
-unfoldable pub settled : Outcome → (c next : DecompressorContext) → Applied
-settled Accepted c next = record { outcome = Accepted; context = next }
-settled (Refused r) c next = refusedAs r c
+-- next: the context where the gap is in step
+unfoldable pub settled : Verdict → (g : ℕ) → (c next : DecompressorContext) → Applied
+settled Accepted g c next = record { verdict = Accepted; gap = g; context = next }
+settled (Refused r) g c next = refusedAs r g c
 
+abbrev pub gapOf : (q : ℕ) → DecompressorContext → ℕ
+gapOf q c = gap (c .link .sequence) q
+
+-- on a live context; no other has its gap looked at (rule 7.2)
 unfoldable pub applied : (n q : ℕ) → DecompressorContext → Parts → Applied
-applied n q c p = settled (outcomeOf n q c) c (advanced (gap (c .link .sequence) q) q c p)
+applied n q c p = settled (gapVerdict n (gapOf q c)) (gapOf q c) c (advanced (gapOf q c) q c p)
 
 unfoldable pub appliedWhole : (n q : ℕ) → DecompressorContext → Parts → RtpHeader → Applied
-appliedWhole n q c p w = settled (outcomeOf n q c) c (advancedWhole (gap (c .link .sequence) q) q c p w)
+appliedWhole n q c p w = settled (gapVerdict n (gapOf q c)) (gapOf q c) c (advancedWhole (gapOf q c) q c p w)
 
 ---- The rebuilt packet
 
+-- rule 6.5: a CU or CR on this context has the UDP checksum in the checksum's place, else nothing
+abbrev pub checksumRead : DecompressorContext → Bool
+checksumRead c = c .carried
+
 -- rule 7.8: what stands in the UDP checksum's place
 abbrev pub checksumOf : DecompressorContext → (sent : ℕ) → ℕ
-checksumOf c sent = cond (c .carried) sent 0
+checksumOf c sent = cond (checksumRead c) sent 0
 
 -- the header at which a context stands
 unfoldable pub rebuilt : DecompressorContext → (sent : ℕ) → Header

@@ -1,4 +1,3 @@
-pub mod Refusal
 pub mod Field
 pub mod Compressor
 pub mod Decompressor

@@ -14,7 +14,7 @@ use Rattle.context.specs.declared.compressor.Usage.the-variants as usage
 use Rattle.context.specs.declared.compressor.CompressorContext.{CompressorContext}
 use Rattle.context.specs.declared.decompressor.Status.the-variants.{Live}
 use Rattle.context.specs.declared.decompressor.DecompressorContext.{DecompressorContext}
-use Rattle.context.specs.declared.decompressor.Outcome.the-variants.{Accepted}
+use Rattle.packet.specs.declared.refusal.Verdict.the-variants.{Accepted}
 use Rattle.context.specs.declared.decompressor.Applied.{Applied}
 use Rattle.context.specs.declared.step.Kind.{Kind}
 use Rattle.context.specs.declared.step.Kind.the-variants.{FullHeader, CompressedUdp, CompressedRtp}
@@ -97,9 +97,9 @@ pub record Related (n j : ℕ) (v : DecompressorContext) (s : CompressorContext)
 
 ---- A packet that arrives
 
--- what the decompressor makes of it; h: the header that a full header carries
+-- what the decompressor makes of it; h: the header that a full header carries, which is never a guess: a gap of 1 stands for it
 abbrev pub received : Kind → (n : ℕ) → Header → Link → Parts → DecompressorContext → Applied
-received FullHeader n h l p v = record { outcome = Accepted; context = filled h l }
+received FullHeader n h l p v = record { verdict = Accepted; gap = 1; context = filled h l }
 received CompressedUdp n h l p v = applied n (l .sequence) v p
 received CompressedRtp n h l p v = applied n (l .sequence) v p
 
@@ -114,8 +114,9 @@ isFull CompressedRtp = false
 -- it is accepted, its header is rebuilt, and nothing is lost any more. A CU or CR finds a live context (rule 3.3 has 8 before
 -- the fields) that reads the UDP checksum exactly where the compressor wrote it
 pub record Arrives (n : ℕ) (v : DecompressorContext) (h : Header) (a : Step) : Type 0 where
+  pub gap : ℕ
   pub after : DecompressorContext
-  pub accepts : receivedOf n h a v ≡ record { outcome = Accepted; context = after }
+  pub accepts : receivedOf n h a v ≡ record { verdict = Accepted; gap = gap; context = after }
   pub exact : rebuilt after (a .parts .checksum) ≡ h
   pub live : isFull (a .kind) ≡ false → v .status ≡ Live
   pub carries : isFull (a .kind) ≡ false → v .carried ≡ not (a .context .blank)

@@ -1,10 +1,10 @@
 use crate::kept::Deltas;
 use crate::kept::Link;
-use crate::refusal::Refusal;
 use packet::csrc::Csrc;
 use packet::header::Flow;
 use packet::header::Ip;
 use packet::header::Rtp;
+use packet::refusal::Verdict;
 
 // A broken context takes nothing but a full header.
 pub enum Status {
@@ -30,13 +30,9 @@ pub struct DecompressorContext {
     pub link: Link,
 }
 
-pub enum Outcome {
-    Accepted,
-    Refused(Refusal),
-}
-
-// What becomes of a CU or CR, and of its context.
+// What becomes of a CU or CR on a live context, by how many steps it is on, and the context after it.
 pub struct Applied {
-    pub outcome: Outcome,
+    pub verdict: Verdict,
+    pub gap: u8,
     pub context: DecompressorContext,
 }

@@ -12,3 +12,14 @@ pub struct Link {
     pub sequence: u8,
     pub generation: u8,
 }
+
+// Both are counted from 0 on, and from the highest on to 0 again.
+impl Link {
+    pub const SEQUENCES: u8 = 16;
+
+    pub const MAX_SEQUENCE: u8 = 15;
+
+    pub const GENERATIONS: u8 = 64;
+
+    pub const MAX_GENERATION: u8 = 63;
+}

@@ -6,5 +6,4 @@
 pub mod compressor;
 pub mod decompressor;
 pub mod kept;
-pub mod refusal;
 pub mod step;

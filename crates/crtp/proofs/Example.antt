@@ -20,10 +20,10 @@ use Rattle.compressor.specs.Lookup.{placeOf}
 use Rattle.compressor.specs.Request.{requestOf}
 use Rattle.compressor.specs.Send.{stepOn, linkBytes, sendAt, sendOf}
 use Rattle.context.specs.Compressor.{first, started, sameConstants, begun, startedUnlessDue, requested, reset, adoptsId, adoptsTimestamp, judged, dueNow, anyDue, kindOf, listIf, partsOf, dueAfter, deltasAfter, moved, sentWith, stepOf, firstStep}
-use Rattle.context.specs.Decompressor.{filled, gapOutcome, outcomeBy, outcomeOf, ipAfter, rtpAfter, deltasHeld, advanced, broke, settled, applied, rebuilt}
+use Rattle.context.specs.Decompressor.{filled, gapVerdict, ipAfter, rtpAfter, deltasHeld, advanced, broke, settled, applied, rebuilt}
 use Rattle.context.specs.Field.{nextSequence, nextGeneration, offPattern, counted, isDue, gap, movedOn}
 use Rattle.context.specs.Sound.{soundList, soundLink, soundDue, zeroList, usedSound, unusedSound, soundCompressorBy, soundCompressor, filledSound, unfilledSound, soundDecompressorBy, soundDecompressor, emptyCompressor, emptyDecompressor}
-use Rattle.decompressor.specs.Receive.{receiveFull, oldForm, receiveCompressed, receiveKind, receiveBy}
+use Rattle.decompressor.specs.Receive.{receiveFull, receiveOld, receiveCompressed, receiveKind, receiveBy}
 use Rattle.fields.specs.Next.{next, readPayload, nextByte, nextWord, nextLong, nextDelta16, nextDelta32, nextPayload}
 use Rattle.headers.specs.Checksum.{ipChecksumOf, ipChecksum}
 use Rattle.headers.specs.Compressible.{fixedForm, compressible}
@@ -78,7 +78,7 @@ abbrev shown : ℕ → List ℕ → Shown
 shown n b = record { number = n; bytes = b }
 
 answers-are : answers start list ≡ shown 0 packet1 ∷ shown 0 packet3 ∷ shown 11 [] ∷ shown 0 packet5 ∷ shown 0 odd ∷ []
-unfolding compressing.soundOf decompressing.soundOf plus codeOf difference sum hasCode readByte readWord readLong readBy placeOf requestOf stepOn linkBytes sendAt sendOf first started sameConstants begun startedUnlessDue requested reset adoptsId adoptsTimestamp judged dueNow anyDue kindOf listIf partsOf dueAfter deltasAfter moved sentWith stepOf firstStep filled gapOutcome outcomeBy outcomeOf ipAfter rtpAfter deltasHeld advanced broke settled applied rebuilt nextSequence nextGeneration offPattern counted isDue gap movedOn soundList soundLink soundDue zeroList usedSound unusedSound soundCompressorBy soundCompressor filledSound unfilledSound soundDecompressorBy soundDecompressor emptyCompressor emptyDecompressor receiveFull oldForm receiveCompressed receiveKind receiveBy next readPayload nextByte nextWord nextLong nextDelta16 nextDelta32 nextPayload ipChecksumOf ipChecksum fixedForm compressible rtpAt flowOf ipOf headerOf ipFront ipBack udpBytes rtpFixed headerBytes crBytes secondWith secondOf deltasOf crRest crOf recordWith recordJudged requestJudged cuBytes changesOf valuesOf cuRest cuOf fhBytes fieldsForm fhJudged fhOf headOf sameList
+unfolding compressing.soundOf decompressing.soundOf plus codeOf difference sum hasCode readByte readWord readLong readBy placeOf requestOf stepOn linkBytes sendAt sendOf first started sameConstants begun startedUnlessDue requested reset adoptsId adoptsTimestamp judged dueNow anyDue kindOf listIf partsOf dueAfter deltasAfter moved sentWith stepOf firstStep filled gapVerdict ipAfter rtpAfter deltasHeld advanced broke settled applied rebuilt nextSequence nextGeneration offPattern counted isDue gap movedOn soundList soundLink soundDue zeroList usedSound unusedSound soundCompressorBy soundCompressor filledSound unfilledSound soundDecompressorBy soundDecompressor emptyCompressor emptyDecompressor receiveFull receiveOld receiveCompressed receiveKind receiveBy next readPayload nextByte nextWord nextLong nextDelta16 nextDelta32 nextPayload ipChecksumOf ipChecksum fixedForm compressible rtpAt flowOf ipOf headerOf ipFront ipBack udpBytes rtpFixed headerBytes crBytes secondWith secondOf deltasOf crRest crOf recordWith recordJudged requestJudged cuBytes changesOf valuesOf cuRest cuOf fhBytes fieldsForm fhJudged fhOf headOf sameList
 answers-are = refl
 
 -- two full headers, two CU, two full headers by request, one plain packet
@@ -87,17 +87,17 @@ kinds [] = []
 kinds (e ∷ es) = e .kind ∷ kinds es
 
 kinds-are : kinds (after start list .sent) ≡ 1 ∷ 1 ∷ 2 ∷ 2 ∷ 1 ∷ 1 ∷ 0 ∷ []
-unfolding compressing.soundOf decompressing.soundOf plus codeOf difference sum hasCode readByte readWord readLong readBy placeOf requestOf stepOn linkBytes sendAt sendOf first started sameConstants begun startedUnlessDue requested reset adoptsId adoptsTimestamp judged dueNow anyDue kindOf listIf partsOf dueAfter deltasAfter moved sentWith stepOf firstStep filled gapOutcome outcomeBy outcomeOf ipAfter rtpAfter deltasHeld advanced broke settled applied rebuilt nextSequence nextGeneration offPattern counted isDue gap movedOn soundList soundLink soundDue zeroList usedSound unusedSound soundCompressorBy soundCompressor filledSound unfilledSound soundDecompressorBy soundDecompressor emptyCompressor emptyDecompressor receiveFull oldForm receiveCompressed receiveKind receiveBy next readPayload nextByte nextWord nextLong nextDelta16 nextDelta32 nextPayload ipChecksumOf ipChecksum fixedForm compressible rtpAt flowOf ipOf headerOf ipFront ipBack udpBytes rtpFixed headerBytes crBytes secondWith secondOf deltasOf crRest crOf recordWith recordJudged requestJudged cuBytes changesOf valuesOf cuRest cuOf fhBytes fieldsForm fhJudged fhOf headOf sameList
+unfolding compressing.soundOf decompressing.soundOf plus codeOf difference sum hasCode readByte readWord readLong readBy placeOf requestOf stepOn linkBytes sendAt sendOf first started sameConstants begun startedUnlessDue requested reset adoptsId adoptsTimestamp judged dueNow anyDue kindOf listIf partsOf dueAfter deltasAfter moved sentWith stepOf firstStep filled gapVerdict ipAfter rtpAfter deltasHeld advanced broke settled applied rebuilt nextSequence nextGeneration offPattern counted isDue gap movedOn soundList soundLink soundDue zeroList usedSound unusedSound soundCompressorBy soundCompressor filledSound unfilledSound soundDecompressorBy soundDecompressor emptyCompressor emptyDecompressor receiveFull receiveOld receiveCompressed receiveKind receiveBy next readPayload nextByte nextWord nextLong nextDelta16 nextDelta32 nextPayload ipChecksumOf ipChecksum fixedForm compressible rtpAt flowOf ipOf headerOf ipFront ipBack udpBytes rtpFixed headerBytes crBytes secondWith secondOf deltasOf crRest crOf recordWith recordJudged requestJudged cuBytes changesOf valuesOf cuRest cuOf fhBytes fieldsForm fhJudged fhOf headOf sameList
 kinds-are = refl
 
 ---- The premises
 
 losses-on : losses 0 list 0 (after start list .sent) ≡ true ∷ false ∷ true ∷ false ∷ true ∷ false ∷ []
-unfolding compressing.soundOf decompressing.soundOf plus codeOf difference sum hasCode readByte readWord readLong readBy placeOf requestOf stepOn linkBytes sendAt sendOf first started sameConstants begun startedUnlessDue requested reset adoptsId adoptsTimestamp judged dueNow anyDue kindOf listIf partsOf dueAfter deltasAfter moved sentWith stepOf firstStep filled gapOutcome outcomeBy outcomeOf ipAfter rtpAfter deltasHeld advanced broke settled applied rebuilt nextSequence nextGeneration offPattern counted isDue gap movedOn soundList soundLink soundDue zeroList usedSound unusedSound soundCompressorBy soundCompressor filledSound unfilledSound soundDecompressorBy soundDecompressor emptyCompressor emptyDecompressor receiveFull oldForm receiveCompressed receiveKind receiveBy next readPayload nextByte nextWord nextLong nextDelta16 nextDelta32 nextPayload ipChecksumOf ipChecksum fixedForm compressible rtpAt flowOf ipOf headerOf ipFront ipBack udpBytes rtpFixed headerBytes crBytes secondWith secondOf deltasOf crRest crOf recordWith recordJudged requestJudged cuBytes changesOf valuesOf cuRest cuOf fhBytes fieldsForm fhJudged fhOf headOf sameList
+unfolding compressing.soundOf decompressing.soundOf plus codeOf difference sum hasCode readByte readWord readLong readBy placeOf requestOf stepOn linkBytes sendAt sendOf first started sameConstants begun startedUnlessDue requested reset adoptsId adoptsTimestamp judged dueNow anyDue kindOf listIf partsOf dueAfter deltasAfter moved sentWith stepOf firstStep filled gapVerdict ipAfter rtpAfter deltasHeld advanced broke settled applied rebuilt nextSequence nextGeneration offPattern counted isDue gap movedOn soundList soundLink soundDue zeroList usedSound unusedSound soundCompressorBy soundCompressor filledSound unfilledSound soundDecompressorBy soundDecompressor emptyCompressor emptyDecompressor receiveFull receiveOld receiveCompressed receiveKind receiveBy next readPayload nextByte nextWord nextLong nextDelta16 nextDelta32 nextPayload ipChecksumOf ipChecksum fixedForm compressible rtpAt flowOf ipOf headerOf ipFront ipBack udpBytes rtpFixed headerBytes crBytes secondWith secondOf deltasOf crRest crOf recordWith recordJudged requestJudged cuBytes changesOf valuesOf cuRest cuOf fhBytes fieldsForm fhJudged fhOf headOf sameList
 losses-on = refl
 
 losses-off : (c : ℕ) → eqb 0 c ≡ false → losses c list 0 (after start list .sent) ≡ []
-unfolding compressing.soundOf decompressing.soundOf plus codeOf difference sum hasCode readByte readWord readLong readBy placeOf requestOf stepOn linkBytes sendAt sendOf first started sameConstants begun startedUnlessDue requested reset adoptsId adoptsTimestamp judged dueNow anyDue kindOf listIf partsOf dueAfter deltasAfter moved sentWith stepOf firstStep filled gapOutcome outcomeBy outcomeOf ipAfter rtpAfter deltasHeld advanced broke settled applied rebuilt nextSequence nextGeneration offPattern counted isDue gap movedOn soundList soundLink soundDue zeroList usedSound unusedSound soundCompressorBy soundCompressor filledSound unfilledSound soundDecompressorBy soundDecompressor emptyCompressor emptyDecompressor receiveFull oldForm receiveCompressed receiveKind receiveBy next readPayload nextByte nextWord nextLong nextDelta16 nextDelta32 nextPayload ipChecksumOf ipChecksum fixedForm compressible rtpAt flowOf ipOf headerOf ipFront ipBack udpBytes rtpFixed headerBytes crBytes secondWith secondOf deltasOf crRest crOf recordWith recordJudged requestJudged cuBytes changesOf valuesOf cuRest cuOf fhBytes fieldsForm fhJudged fhOf headOf sameList
+unfolding compressing.soundOf decompressing.soundOf plus codeOf difference sum hasCode readByte readWord readLong readBy placeOf requestOf stepOn linkBytes sendAt sendOf first started sameConstants begun startedUnlessDue requested reset adoptsId adoptsTimestamp judged dueNow anyDue kindOf listIf partsOf dueAfter deltasAfter moved sentWith stepOf firstStep filled gapVerdict ipAfter rtpAfter deltasHeld advanced broke settled applied rebuilt nextSequence nextGeneration offPattern counted isDue gap movedOn soundList soundLink soundDue zeroList usedSound unusedSound soundCompressorBy soundCompressor filledSound unfilledSound soundDecompressorBy soundDecompressor emptyCompressor emptyDecompressor receiveFull receiveOld receiveCompressed receiveKind receiveBy next readPayload nextByte nextWord nextLong nextDelta16 nextDelta32 nextPayload ipChecksumOf ipChecksum fixedForm compressible rtpAt flowOf ipOf headerOf ipFront ipBack udpBytes rtpFixed headerBytes crBytes secondWith secondOf deltasOf crRest crOf recordWith recordJudged requestJudged cuBytes changesOf valuesOf cuRest cuOf fhBytes fieldsForm fhJudged fhOf headOf sameList
 losses-off c e = rw e
 
 bounded-by : (c : ℕ) (b : Bool) → eqb 0 c ≡ b → Bounded 1 (losses c list 0 (after start list .sent))
@@ -117,7 +117,7 @@ opened = record {
 }
 
 ordered : Ordered start 0 list
-unfolding compressing.soundOf decompressing.soundOf plus codeOf difference sum hasCode readByte readWord readLong readBy placeOf requestOf stepOn linkBytes sendAt sendOf first started sameConstants begun startedUnlessDue requested reset adoptsId adoptsTimestamp judged dueNow anyDue kindOf listIf partsOf dueAfter deltasAfter moved sentWith stepOf firstStep filled gapOutcome outcomeBy outcomeOf ipAfter rtpAfter deltasHeld advanced broke settled applied rebuilt nextSequence nextGeneration offPattern counted isDue gap movedOn soundList soundLink soundDue zeroList usedSound unusedSound soundCompressorBy soundCompressor filledSound unfilledSound soundDecompressorBy soundDecompressor emptyCompressor emptyDecompressor receiveFull oldForm receiveCompressed receiveKind receiveBy next readPayload nextByte nextWord nextLong nextDelta16 nextDelta32 nextPayload ipChecksumOf ipChecksum fixedForm compressible rtpAt flowOf ipOf headerOf ipFront ipBack udpBytes rtpFixed headerBytes crBytes secondWith secondOf deltasOf crRest crOf recordWith recordJudged requestJudged cuBytes changesOf valuesOf cuRest cuOf fhBytes fieldsForm fhJudged fhOf headOf sameList
+unfolding compressing.soundOf decompressing.soundOf plus codeOf difference sum hasCode readByte readWord readLong readBy placeOf requestOf stepOn linkBytes sendAt sendOf first started sameConstants begun startedUnlessDue requested reset adoptsId adoptsTimestamp judged dueNow anyDue kindOf listIf partsOf dueAfter deltasAfter moved sentWith stepOf firstStep filled gapVerdict ipAfter rtpAfter deltasHeld advanced broke settled applied rebuilt nextSequence nextGeneration offPattern counted isDue gap movedOn soundList soundLink soundDue zeroList usedSound unusedSound soundCompressorBy soundCompressor filledSound unfilledSound soundDecompressorBy soundDecompressor emptyCompressor emptyDecompressor receiveFull receiveOld receiveCompressed receiveKind receiveBy next readPayload nextByte nextWord nextLong nextDelta16 nextDelta32 nextPayload ipChecksumOf ipChecksum fixedForm compressible rtpAt flowOf ipOf headerOf ipFront ipBack udpBytes rtpFixed headerBytes crBytes secondWith secondOf deltasOf crRest crOf recordWith recordJudged requestJudged cuBytes changesOf valuesOf cuRest cuOf fhBytes fieldsForm fhJudged fhOf headOf sameList
 ordered = (lit≤ tt, lit≤ tt, (lit≤ tt, lit≤ tt, (lit≤ tt, lit≤ tt, (lit≤ tt, lit≤ tt, (lit≤ tt, lit≤ tt, tt)))))
 
 premises : Premises 1 2 start list

@@ -5,11 +5,11 @@ use crate::advance;
 use crate::gap;
 use context::decompressor::Applied;
 use context::decompressor::DecompressorContext;
-use context::decompressor::Outcome;
 use context::decompressor::Status;
-use context::refusal::Refusal;
 use packet::header::RtpHeader;
 use packet::parts::Parts;
+use packet::refusal::Refusal;
+use packet::refusal::Verdict;
 
 pub fn break_context(c: DecompressorContext) -> DecompressorContext
     ensures { λ r. ⌜ r ≡ broke c ⌝ }
@@ -34,48 +34,51 @@ pub fn break_context(c: DecompressorContext) -> DecompressorContext
     }
 }
 
-fn refuse(why: Refusal, c: DecompressorContext) -> Applied
-    ensures { λ r. ⌜ r ≡ refusedAs why c ⌝ }
+fn refuse(why: Refusal, g: u8, c: DecompressorContext) -> Applied
+    ensures { λ r. ⌜ r ≡ refusedAs why g c ⌝ }
 {
     let broken = break_context(c);
     Applied {
-        outcome: Outcome::Refused(why),
+        verdict: Verdict::Refused(why),
+        gap: g,
         context: broken,
     }
 }
 
-// A CR, or a CU with F, with the link sequence q.
+// A CR, or a CU with F, with the link sequence q, on a live context.
 pub fn apply(n: u8, q: u8, c: DecompressorContext, p: Parts) -> Applied
     requires { ⌜ n ≤ 14 ⌝ }
     ensures { λ r. ⌜ r ≡ applied n q c p ⌝ }
 {
-    match gap::outcome_of(n, q, c) {
-        Outcome::Accepted => {
-            let g = gap::gap_of(c.link.sequence, q);
+    let g = gap::gap_of(c.link.sequence, q);
+    match gap::judge_gap(n, g) {
+        Verdict::Accepted => {
             let next = advance::advance(g, q, c, p);
             Applied {
-                outcome: Outcome::Accepted,
+                verdict: Verdict::Accepted,
+                gap: g,
                 context: next,
             }
         }
-        Outcome::Refused(why) => refuse(why, c),
+        Verdict::Refused(why) => refuse(why, g, c),
     }
 }
 
-// A CU without F, with the link sequence q and the RTP header w.
+// A CU without F, with the link sequence q and the RTP header w, on a live context.
 pub fn apply_whole(n: u8, q: u8, c: DecompressorContext, p: Parts, w: RtpHeader) -> Applied
     requires { ⌜ n ≤ 14 ⌝ }
     ensures { λ r. ⌜ r ≡ appliedWhole n q c p w ⌝ }
 {
-    match gap::outcome_of(n, q, c) {
-        Outcome::Accepted => {
-            let g = gap::gap_of(c.link.sequence, q);
+    let g = gap::gap_of(c.link.sequence, q);
+    match gap::judge_gap(n, g) {
+        Verdict::Accepted => {
             let next = advance::advance_whole(g, q, c, p, w);
             Applied {
-                outcome: Outcome::Accepted,
+                verdict: Verdict::Accepted,
+                gap: g,
                 context: next,
             }
         }
-        Outcome::Refused(why) => refuse(why, c),
+        Verdict::Refused(why) => refuse(why, g, c),
     }
 }

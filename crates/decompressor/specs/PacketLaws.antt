@@ -17,10 +17,10 @@ use Rattle.headers.specs.Compressible.{compressible}
 use Rattle.headers.specs.CompressibleLaws.{compressible-size}
 use Rattle.headers.specs.ListLaws.{length-listBytes}
 use Rattle.headers.specs.RoundTrip.{printed-headerOf}
-use Rattle.links.specs.declared.judgement.Judgement.the-variants.{Good}
+use Rattle.packet.specs.declared.refusal.Verdict.the-variants as verdict
 use Rattle.links.specs.Fh.{fhJudged, fhOf}
 use Rattle.links.specs.FhLaws.{fhOf-start, fhOf-within, fhOf-range}
-use Rattle.context.specs.declared.refusal.Refusal.the-variants.{NoRoom}
+use Rattle.packet.specs.declared.refusal.Refusal.the-variants.{NoRoom}
 use Rattle.decompressor.specs.declared.answer.Outcome.the-variants.{Accepted, Refused}
 use Rattle.decompressor.specs.declared.table.Table.{Table}
 use Rattle.decompressor.specs.Answer.{said, delivered}
@@ -45,7 +45,7 @@ module _ {p : List ℕ} (a : AllBytes p) (e : compressible p ≡ true) where
 
 ---- the packet of a full header
 
-module _ (k : ℕ) (s : List ℕ) (a : AllBytes s) (e : fhJudged k s ≡ Good) where
+module _ (k : ℕ) (s : List ℕ) (a : AllBytes s) (e : fhJudged k s ≡ verdict.Accepted) where
   -- it is as long as the full header
   pub full-size : length s ≡ headerSize (fhOf s .header) + length (drop (fhOf s .start) s)
   full-size = omega (arith, fhOf-start s, fhOf-within s k e, length-drop (fhOf s .start) s)

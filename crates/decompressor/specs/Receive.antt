@@ -7,8 +7,6 @@ use lib.Dec.{eqb, leb, ltb}
 use lib.ListN.{length, drop}
 use Rattle.codes.specs.Reading.{byteAt}
 use Rattle.packet.specs.declared.header.Header.{Header}
-use Rattle.fields.specs.Place.{isGood}
-use Rattle.fields.specs.Place as place
 use Rattle.fields.specs.declared.place.Place.{Place}
 use Rattle.headers.specs.Header.{headerSize}
 use Rattle.headers.specs.Checksum.{printed}
@@ -20,17 +18,18 @@ use Rattle.links.specs.Cu.{cuOf}
 use Rattle.links.specs.Cr.{crOf}
 use Rattle.links.specs.Whole.{wholeOf}
 use Rattle.links.specs.declared.fh.FullHeader.{FullHeader}
-use Rattle.links.specs.declared.judgement.Judgement.{Judgement}
-use Rattle.links.specs.declared.judgement.Judgement.the-variants.{Good, Cut, Forbidden, NoSuchContext}
 use Rattle.links.specs.Fh.{fhJudged, fhOf}
-use Rattle.context.specs.Refusal as refusal
-use Rattle.context.specs.Decompressor.{filled, broke, applied, appliedWhole, rebuilt}
+use Rattle.packet.specs.Refusal.{numberOf, verdictNumber, isAccepted}
+use Rattle.settings.specs.Settings.{lengthAllowed}
+use Rattle.context.specs.Decompressor.{filled, broke, applied, appliedWhole, checksumRead, rebuilt}
 use Rattle.context.specs.declared.decompressor.Status.{Status}
 use Rattle.context.specs.declared.decompressor.Status.the-variants.{Empty, Live, Broken}
 use Rattle.context.specs.declared.decompressor.DecompressorContext.{DecompressorContext}
-use Rattle.context.specs.declared.decompressor.Outcome.{Outcome}
-use Rattle.context.specs.declared.decompressor.Outcome.the-variants.{Accepted, Refused}
+use Rattle.packet.specs.declared.refusal.Verdict.{Verdict}
+use Rattle.packet.specs.declared.refusal.Verdict.the-variants.{Accepted, Refused}
 use Rattle.context.specs.declared.decompressor.Applied.{Applied}
+use Rattle.decompressor.specs.declared.old.OldForm.{OldForm}
+use Rattle.decompressor.specs.declared.old.OldForm.the-variants.{Taken}
 use Rattle.decompressor.specs.declared.table.Table.{Table}
 use Rattle.decompressor.specs.Answer.{Result, accepted, refused, delivered}
 use Rattle.decompressor.specs.Table.{soundOf, contextAt, withContext}
@@ -52,11 +51,9 @@ receivePlain t s output = delivered t t s output
 abbrev pub fullTable : Table → FullHeader → Table
 fullTable t f = withContext t (f .context) (filled (f .header) (record { sequence = f .link; generation = f .generation }))
 
-abbrev pub receiveFullBy : Judgement → Table → FullHeader → (s output : List ℕ) → Result
-receiveFullBy Good t f s output = delivered t (fullTable t f) (packetOf (f .header) (drop (f .start) s)) output
-receiveFullBy Cut t f s output = refused t 4 output
-receiveFullBy Forbidden t f s output = refused t 5 output
-receiveFullBy NoSuchContext t f s output = refused t 6 output
+abbrev pub receiveFullBy : Verdict → Table → FullHeader → (s output : List ℕ) → Result
+receiveFullBy Accepted t f s output = delivered t (fullTable t f) (packetOf (f .header) (drop (f .start) s)) output
+receiveFullBy (Refused r) t f s output = refused t (numberOf r) output
 
 unfoldable pub receiveFull : Table → (s output : List ℕ) → Result
 receiveFull t s output = receiveFullBy (fhJudged (t .settings .contexts) s) t (fhOf s) s output
@@ -71,17 +68,17 @@ rebuildTo before i c sent rest output =
     (delivered before (withContext before i c) (packetOf (rebuilt c sent) rest) output)
 
 -- what its context made of it: 8 and 9 leave the context broken
-abbrev pub settleBy : Outcome → Table → (i : ℕ) → DecompressorContext → (sent : ℕ) → (rest output : List ℕ) → Result
+abbrev pub settleBy : Verdict → Table → (i : ℕ) → DecompressorContext → (sent : ℕ) → (rest output : List ℕ) → Result
 settleBy Accepted t i c sent rest output = rebuildTo t i c sent rest output
-settleBy (Refused r) t i c sent rest output = refused (withContext t i c) (refusal.numberOf r) output
+settleBy (Refused r) t i c sent rest output = refused (withContext t i c) (numberOf r) output
 
 abbrev pub settle : Applied → Table → (i : ℕ) → (sent : ℕ) → (rest output : List ℕ) → Result
-settle a t i sent rest output = settleBy (a .outcome) t i (a .context) sent rest output
+settle a t i sent rest output = settleBy (a .verdict) t i (a .context) sent rest output
 
 -- the fields, read to their end or refused on the way with the context as it was
 abbrev pub settleRead : Place → Applied → Table → (i : ℕ) → (sent : ℕ) → (s output : List ℕ) → Result
 settleRead p a t i sent s output =
-    cond (isGood (p .outcome)) (settle a t i sent (drop (p .cursor .at) s) output) (refused t (place.numberOf (p .outcome)) output)
+    cond (isAccepted (p .verdict)) (settle a t i sent (drop (p .cursor .at) s) output) (refused t (verdictNumber (p .verdict)) output)
 
 abbrev pub receiveParts : ReadParts → Table → (i q : ℕ) → (s output : List ℕ) → Result
 receiveParts r t i q s output = settleRead (r .place) (applied (t .settings .repeats) q (contextAt t i) (r .parts)) t i (r .parts .checksum) s output
@@ -91,23 +88,22 @@ abbrev pub receiveWhole : ReadWhole → Table → (i q : ℕ) → (s output : Li
 receiveWhole r t i q s output =
     settleRead (r .place) (appliedWhole (t .settings .repeats) q (contextAt t i) (r .parts) (r .header)) t i (r .parts .checksum) s output
 
--- how a CU without F is taken: from the table, the context's place, the flag byte and the bytes. A later reading may replace it
-abbrev pub OldForm : Type 0
-OldForm = Table → (i : ℕ) → Head → (s output : List ℕ) → Result
+-- a CR on a live context; h: the flag byte
+abbrev pub receiveRtp : Table → (i : ℕ) → Head → (s output : List ℕ) → Result
+receiveRtp t i h s output = receiveParts (crOf s (h .place) (h .flags) (checksumRead (contextAt t i))) t i (h .flags .low) s output
 
-unfoldable pub oldForm : OldForm
-oldForm t i h s output = receiveWhole (wholeOf s (h .place) (h .flags) (contextAt t i .carried)) t i (h .flags .low) s output
+-- how a CU without F is taken
+unfoldable pub receiveOld : OldForm → Table → (i : ℕ) → Head → (s output : List ℕ) → Result
+receiveOld Taken t i h s output =
+    receiveWhole (wholeOf s (h .place) (h .flags) (checksumRead (contextAt t i))) t i (h .flags .low) s output
 
 module _ (old : OldForm) where
-  -- the context is live: the fields are read by type. h: the flag byte
+  -- a CU on a live context
   abbrev pub receiveUdp : Table → (i : ℕ) → Head → (s output : List ℕ) → Result
   receiveUdp t i h s output =
       cond (h .flags .a)
-      (receiveParts (cuOf s (h .place) (h .flags) (contextAt t i .carried)) t i (h .flags .low) s output)
-      (old t i h s output)
-
-  abbrev pub receiveRtp : Table → (i : ℕ) → Head → (s output : List ℕ) → Result
-  receiveRtp t i h s output = receiveParts (crOf s (h .place) (h .flags) (contextAt t i .carried)) t i (h .flags .low) s output
+      (receiveParts (cuOf s (h .place) (h .flags) (checksumRead (contextAt t i))) t i (h .flags .low) s output)
+      (receiveOld old t i h s output)
 
   -- rule 3.1: 8 for a context that is not live, which it leaves broken
   abbrev pub receiveOn : Status → (kind : ℕ) → Table → (i : ℕ) → Head → (s output : List ℕ) → Result
@@ -119,7 +115,7 @@ module _ (old : OldForm) where
   unfoldable pub receiveCompressed : (kind : ℕ) → Table → (s output : List ℕ) → Result
   receiveCompressed kind t s output =
       cond (ltb (contextOf s) (t .settings .contexts))
-      (cond (isGood (headOf s .place .outcome))
+      (cond (isAccepted (headOf s .place .verdict))
       (receiveOn (contextAt t (contextOf s) .status) kind t (contextOf s) (headOf s) s output)
       (refused t 4 output))
       (refused t 6 output)
@@ -131,17 +127,13 @@ module _ (old : OldForm) where
       cond (eqb kind 0) (receivePlain t s output)
       (cond (eqb kind 1) (receiveFull t s output) (receiveCompressed kind t s output))
 
-  -- rule 1.4
-  abbrev pub lengthAllowed : List ℕ → Bool
-  lengthAllowed s = leb 1 (length s) && leb (length s) 1500
-
   -- rule 3.3: 1, 3, 2, then by type
   unfoldable pub receiveBy : Table → (kind : ℕ) → (s output : List ℕ) → Result
   receiveBy t kind s output =
       cond (soundOf t)
-      (cond (leb kind 3) (cond (lengthAllowed s) (receiveKind kind t s output) (refused t 2 output)) (refused t 3 output))
+      (cond (leb kind 3) (cond (lengthAllowed (length s)) (receiveKind kind t s output) (refused t 2 output)) (refused t 3 output))
       (refused t 1 output)
 
 -- the decompressor's own receive
 abbrev pub receiveOf : Table → (kind : ℕ) → (s output : List ℕ) → Result
-receiveOf t kind s output = receiveBy oldForm t kind s output
+receiveOf t kind s output = receiveBy Taken t kind s output

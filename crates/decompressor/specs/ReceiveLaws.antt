@@ -12,7 +12,9 @@ use lib.Seq.{drop-append-seam}
 use Rattle.packet.specs.declared.header.Header.{Header}
 use Rattle.packet.specs.declared.parts.Parts.{Parts}
 use Rattle.bytes.specs.declared.flags.Flags.{Flags}
-use Rattle.fields.specs.Place.{isGood, good}
+use Rattle.packet.specs.Refusal.{isAccepted}
+use Rattle.settings.specs.SettingsLaws.{lengthAllowed-made}
+use Rattle.fields.specs.Place.{good}
 use Rattle.links.specs.declared.head.Head.{Head}
 use Rattle.links.specs.declared.head.ReadParts.{ReadParts}
 use Rattle.links.specs.Fits.{CuFits, CrFits}
@@ -23,28 +25,24 @@ use Rattle.links.specs.Cr.{crBytes, crFlags, crOf}
 use Rattle.links.specs.CrLaws.{contextOf-crBytes, headOf-crBytes, crOf-crBytes}
 use Rattle.links.specs.Fh.{fhBytes, fhOf}
 use Rattle.links.specs.FhLaws.{FhFits, length-fhBytes, fhJudged-fhBytes, fhOf-fhBytes}
-use Rattle.context.specs.Decompressor.{applied, filled}
+use Rattle.context.specs.Decompressor.{applied, broke, filled}
 use Rattle.context.specs.declared.decompressor.Status.{Status}
-use Rattle.context.specs.declared.decompressor.Status.the-variants.{Live}
+use Rattle.context.specs.declared.decompressor.Status.the-variants.{Empty, Live, Broken}
 use Rattle.context.specs.declared.decompressor.DecompressorContext.{DecompressorContext}
-use Rattle.context.specs.declared.decompressor.Outcome.the-variants.{Accepted}
+use Rattle.packet.specs.declared.refusal.Verdict.the-variants.{Accepted}
 use Rattle.context.specs.declared.decompressor.Applied.{Applied}
+use Rattle.decompressor.specs.declared.old.OldForm.{OldForm}
+use Rattle.decompressor.specs.declared.old.OldForm.the-variants.{Taken}
 use Rattle.decompressor.specs.declared.table.Table.{Table}
 use Rattle.decompressor.specs.Answer.{Result, refused, delivered}
 use Rattle.decompressor.specs.Table.{soundOf, contextAt, withContext}
-use Rattle.decompressor.specs.Receive.{packetOf, receivePlain, receiveFull, rebuildTo, settle, settleBy, settleRead, receiveParts, OldForm, oldForm, receiveUdp, receiveRtp, receiveOn, receiveCompressed, receiveKind, lengthAllowed, receiveBy, receiveOf}
-
--- a length that is allowed
-pub lengthAllowed-true : (old : OldForm) (s : List ℕ) → lengthAllowed old s ≡ true → (1 ≤ length s) × (length s ≤ 1500)
-lengthAllowed-true old s e =
-    let p = and-eq-true-iff (leb 1 (length s)) (leb (length s) 1500) .0 e in
-    (leb-true 1 (length s) (p .0), leb-true (length s) 1500 (p .1))
+use Rattle.decompressor.specs.Receive.{packetOf, receivePlain, receiveFull, rebuildTo, settle, settleBy, settleRead, receiveParts, receiveUdp, receiveRtp, receiveOn, receiveCompressed, receiveKind, receiveBy, receiveOf}
 
 -- a packet that is judged by its type alone: the table is sound, and the length allowed
 module _ (t : Table) (s output : List ℕ) (sound : soundOf t ≡ true) (some : 1 ≤ length s) (few : length s ≤ 1500) where
-  receive-kind : (kind : ℕ) → kind ≤ 3 → receiveOf t kind s output ≡ receiveKind oldForm kind t s output
+  receive-kind : (kind : ℕ) → kind ≤ 3 → receiveOf t kind s output ≡ receiveKind Taken kind t s output
   unfolding receiveBy
-  receive-kind kind h = rw (sound, le-leb kind 3 h, le-leb 1 (length s) some, le-leb (length s) 1500 few)
+  receive-kind kind h = rw (sound, le-leb kind 3 h, lengthAllowed-made (length s) some few)
 
   ---- Plain
 
@@ -84,31 +82,39 @@ module _ (old : OldForm) (kind : ℕ) (t : Table) (s output : List ℕ) where
   compressed-unknown h = rw (le-ltb (contextOf s) (t .settings .contexts) h)
 
   module _ (h : contextOf s < t .settings .contexts) where
-    pub compressed-cut : isGood (headOf s .place .outcome) ≡ false → receiveCompressed old kind t s output ≡ refused t 4 output
+    pub compressed-cut : isAccepted (headOf s .place .verdict) ≡ false → receiveCompressed old kind t s output ≡ refused t 4 output
     unfolding receiveCompressed
     compressed-cut e = rw (lt-ltb (contextOf s) (t .settings .contexts) h, e)
 
-    pub compressed-on : isGood (headOf s .place .outcome) ≡ true
+    pub compressed-on : isAccepted (headOf s .place .verdict) ≡ true
         → receiveCompressed old kind t s output ≡ receiveOn old (contextAt t (contextOf s) .status) kind t (contextOf s) (headOf s) s output
     unfolding receiveCompressed
     compressed-on e = rw (lt-ltb (contextOf s) (t .settings .contexts) h, e)
 
+-- rules 3.1, 7.2: a context that is not live is refused 8 and left broken, whatever the gap and the fields
+module _ (old : OldForm) (kind : ℕ) (t : Table) (i : ℕ) (h : Head) (s output : List ℕ) where
+  pub on-notLive : (u : Status) → (u ≡ Live → ⊥) → receiveOn old u kind t i h s output ≡ refused (withContext t i (broke (contextAt t i))) 8 output
+  on-notLive Empty n = refl
+  on-notLive Live n = absurd (n refl)
+  on-notLive Broken n = refl
+
 ---- COMPRESSED_UDP and COMPRESSED_RTP on a live context that accepts them
 
 -- parts that were read to a place, and accepted
-settle-accepted : (t : Table) (i q at : ℕ) (h : Parts) (after : DecompressorContext) (s output : List ℕ)
-    → applied (t .settings .repeats) q (contextAt t i) h ≡ record { outcome = Accepted; context = after }
+settle-accepted : (t : Table) (i q g at : ℕ) (h : Parts) (after : DecompressorContext) (s output : List ℕ)
+    → applied (t .settings .repeats) q (contextAt t i) h ≡ record { verdict = Accepted; gap = g; context = after }
     → receiveParts (record { place = good at; parts = h }) t i q s output ≡ rebuildTo t i after (h .checksum) (drop at s) output
-settle-accepted t i q at h after s output e = rw e
+settle-accepted t i q g at h after s output e = rw e
 
-module _ (t : Table) (i q : ℕ) (h : Parts) (after : DecompressorContext) (rest output : List ℕ)
+module _ (t : Table) (i q g : ℕ) (h : Parts) (after : DecompressorContext) (rest output : List ℕ)
     (sound : soundOf t ≡ true) (place : i < t .settings .contexts) (live : contextAt t i .status ≡ Live)
-    (accepts : applied (t .settings .repeats) q (contextAt t i) h ≡ record { outcome = Accepted; context = after }) where
-  on-live : (kind : ℕ) (g : Head) (s : List ℕ) → receiveOn oldForm (contextAt t i .status) kind t i g s output ≡ receiveOn oldForm Live kind t i g s output
-  on-live kind g s = ap (λ (x : Status). receiveOn oldForm x kind t i g s output) live
+    (accepts : applied (t .settings .repeats) q (contextAt t i) h ≡ record { verdict = Accepted; gap = g; context = after }) where
+  on-live : (kind : ℕ) (head : Head) (s : List ℕ)
+      → receiveOn Taken (contextAt t i .status) kind t i head s output ≡ receiveOn Taken Live kind t i head s output
+  on-live kind head s = ap (λ (x : Status). receiveOn Taken x kind t i head s output) live
 
   compressed-head : (kind : ℕ) (f : Flags) (s : List ℕ) → contextOf s ≡ i → headOf s ≡ record { place = good 2; flags = f }
-      → receiveCompressed oldForm kind t s output ≡ receiveOn oldForm Live kind t i (record { place = good 2; flags = f }) s output
+      → receiveCompressed Taken kind t s output ≡ receiveOn Taken Live kind t i (record { place = good 2; flags = f }) s output
   unfolding receiveCompressed
   compressed-head kind f s c e = rw (c, lt-ltb i (t .settings .contexts) place, e) (on-live kind (record { place = good 2; flags = f }) s)
 
@@ -116,10 +122,10 @@ module _ (t : Table) (i q : ℕ) (h : Parts) (after : DecompressorContext) (rest
     abbrev udp : List ℕ
     udp = cuBytes i q (contextAt t i .carried) h
 
-    udp-read : receiveUdp oldForm t i (record { place = good 2; flags = cuFlags q h }) (udp ++ rest) output ≡ rebuildTo t i after (h .checksum) rest output
+    udp-read : receiveUdp Taken t i (record { place = good 2; flags = cuFlags q h }) (udp ++ rest) output ≡ rebuildTo t i after (h .checksum) rest output
     udp-read =
         rw (cuOf-cuBytes i q (contextAt t i .carried) h fits rest)
-        (settle-accepted t i q (length udp) h after (udp ++ rest) output accepts ∙ ap (λ (l : List ℕ). rebuildTo t i after (h .checksum) l output) (drop-append-seam udp rest))
+        (settle-accepted t i q g (length udp) h after (udp ++ rest) output accepts ∙ ap (λ (l : List ℕ). rebuildTo t i after (h .checksum) l output) (drop-append-seam udp rest))
 
     pub receive-udp : 1 ≤ length (udp ++ rest) → length (udp ++ rest) ≤ 1500 → receiveOf t 2 (udp ++ rest) output ≡ rebuildTo t i after (h .checksum) rest output
     unfolding receiveKind
@@ -132,10 +138,10 @@ module _ (t : Table) (i q : ℕ) (h : Parts) (after : DecompressorContext) (rest
     abbrev rtp : List ℕ
     rtp = crBytes i q (contextAt t i .carried) h
 
-    rtp-read : receiveRtp oldForm t i (record { place = good 2; flags = crFlags q h }) (rtp ++ rest) output ≡ rebuildTo t i after (h .checksum) rest output
+    rtp-read : receiveRtp t i (record { place = good 2; flags = crFlags q h }) (rtp ++ rest) output ≡ rebuildTo t i after (h .checksum) rest output
     rtp-read =
         rw (crOf-crBytes i q (contextAt t i .carried) h fits rest)
-        (settle-accepted t i q (length rtp) h after (rtp ++ rest) output accepts ∙ ap (λ (l : List ℕ). rebuildTo t i after (h .checksum) l output) (drop-append-seam rtp rest))
+        (settle-accepted t i q g (length rtp) h after (rtp ++ rest) output accepts ∙ ap (λ (l : List ℕ). rebuildTo t i after (h .checksum) l output) (drop-append-seam rtp rest))
 
     pub receive-rtp : 1 ≤ length (rtp ++ rest) → length (rtp ++ rest) ≤ 1500 → receiveOf t 3 (rtp ++ rest) output ≡ rebuildTo t i after (h .checksum) rest output
     unfolding receiveKind

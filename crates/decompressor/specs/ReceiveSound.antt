@@ -14,15 +14,11 @@ use Rattle.codes.specs.Bytes.{AllBytes}
 use Rattle.codes.specs.Reading.{byteAt}
 use Rattle.packet.specs.declared.parts.Parts.{Parts}
 use Rattle.fields.specs.declared.place.Place.{Place}
-use Rattle.fields.specs.declared.place.Outcome as fields
-use Rattle.fields.specs.declared.place.Outcome.the-variants as reading
-use Rattle.fields.specs.Place as place
+use Rattle.fields.specs.Place.{stopped}
 use Rattle.headers.specs.Header.{headerSize}
 use Rattle.links.specs.declared.head.Head.{Head}
 use Rattle.links.specs.declared.head.ReadParts.{ReadParts}
 use Rattle.links.specs.declared.whole.ReadWhole.{ReadWhole}
-use Rattle.links.specs.declared.judgement.Judgement.{Judgement}
-use Rattle.links.specs.declared.judgement.Judgement.the-variants.{Good, Cut, Forbidden, NoSuchContext}
 use Rattle.links.specs.Head.{contextOf, headOf}
 use Rattle.links.specs.HeadLaws.{headOf-low}
 use Rattle.links.specs.Cu.{cuOf}
@@ -31,24 +27,28 @@ use Rattle.links.specs.Whole.{wholeOf}
 use Rattle.links.specs.Fh.{fhJudged, fhOf}
 use Rattle.links.specs.FhLaws.{fhOf-context, fhOf-generation, fhOf-link, fhOf-range}
 use Rattle.links.specs.Range as links
-use Rattle.context.specs.Refusal as refusal
-use Rattle.context.specs.declared.refusal.Refusal.{Refusal}
-use Rattle.context.specs.declared.refusal.Refusal.the-variants as refusals
+use Rattle.packet.specs.Refusal.{numberOf, isAccepted}
+use Rattle.packet.specs.RefusalLaws.{numberOf-least}
+use Rattle.settings.specs.Settings.{lengthAllowed}
 use Rattle.context.specs.Sound.{soundDecompressor}
-use Rattle.context.specs.Decompressor.{filled, broke, applied, appliedWhole, rebuilt}
+use Rattle.context.specs.Decompressor.{filled, broke, applied, appliedWhole, checksumRead, rebuilt}
 use Rattle.context.proofs.DecompressorSound.{sound-filled, sound-broke, sound-applied, sound-appliedWhole}
 use Rattle.context.specs.declared.decompressor.Status.{Status}
 use Rattle.context.specs.declared.decompressor.Status.the-variants.{Empty, Live, Broken}
 use Rattle.context.specs.declared.decompressor.DecompressorContext.{DecompressorContext}
-use Rattle.context.specs.declared.decompressor.Outcome.{Outcome}
-use Rattle.context.specs.declared.decompressor.Outcome.the-variants.{Accepted, Refused}
+use Rattle.packet.specs.declared.refusal.Verdict.{Verdict}
+use Rattle.packet.specs.declared.refusal.Verdict.the-variants.{Accepted, Refused}
 use Rattle.context.specs.declared.decompressor.Applied.{Applied}
+use Rattle.decompressor.specs.declared.old.OldForm.{OldForm}
+use Rattle.decompressor.specs.declared.old.OldForm.the-variants.{Taken}
 use Rattle.decompressor.specs.declared.table.Table.{Table}
 use Rattle.decompressor.specs.Answer.{Result, accepted, refused, delivered}
 use Rattle.decompressor.specs.Table.{noContext, soundOf, contextAt, withContext}
 use Rattle.decompressor.specs.TableLaws.{Sound, soundOf-true, sound-contextAt, sound-withContext}
 use Rattle.decompressor.specs.RangeLaws.{header-fits, parts-sound, whole-sound, link-sound}
-use Rattle.decompressor.specs.Receive.{packetOf, receivePlain, fullTable, receiveFullBy, receiveFull, rebuildTo, settleBy, settle, settleRead, receiveParts, receiveWhole, OldForm, oldForm, receiveUdp, receiveRtp, receiveOn, receiveCompressed, receiveKind, lengthAllowed, receiveBy, receiveOf}
+use Rattle.decompressor.specs.Receive.{packetOf, receivePlain, fullTable, receiveFullBy, receiveFull, rebuildTo, settleBy, settle, settleRead}
+use Rattle.decompressor.specs.Receive.{receiveParts, receiveWhole, receiveOld, receiveUdp, receiveRtp, receiveOn, receiveCompressed, receiveKind}
+use Rattle.decompressor.specs.Receive.{receiveBy, receiveOf}
 
 -- the context number that a link packet carries; a plain one carries none
 abbrev pub named : (kind : ℕ) → List ℕ → ℕ
@@ -122,7 +122,7 @@ module _ {t : Table} {i : ℕ} where
 ---- FULL_HEADER
 
 module _ (t : Table) (s : List ℕ) (a : AllBytes s) where
-  full-leaves : fhJudged (t .settings .contexts) s ≡ Good → Leaves t (fhOf s .context) (fullTable t (fhOf s))
+  full-leaves : fhJudged (t .settings .contexts) s ≡ Accepted → Leaves t (fhOf s .context) (fullTable t (fhOf s))
   full-leaves e =
       one (filled (fhOf s .header) (record { sequence = fhOf s .link; generation = fhOf s .generation }))
       (fhOf-context s (t .settings .contexts) e)
@@ -130,30 +130,15 @@ module _ (t : Table) (s : List ℕ) (a : AllBytes s) where
       (header-fits (fhOf s .header) (fhOf-range s a))
       (link-sound (fhOf s .link) (fhOf s .generation) (fhOf-link s) (fhOf-generation s)))
 
-  full-way : (j : Judgement) → fhJudged (t .settings .contexts) s ≡ j → Way t (fhOf s .context) (λ output. receiveFullBy j t (fhOf s) s output)
-  full-way Good e = gives (fullTable t (fhOf s)) (packetOf (fhOf s .header) (drop (fhOf s .start) s)) (full-leaves e) (λ output. refl)
-  full-way Cut e = refuses t 4 (omega arith) same (λ output. refl)
-  full-way Forbidden e = refuses t 5 (omega arith) same (λ output. refl)
-  full-way NoSuchContext e = refuses t 6 (omega arith) same (λ output. refl)
+  full-way : (v : Verdict) → fhJudged (t .settings .contexts) s ≡ v → Way t (fhOf s .context) (λ output. receiveFullBy v t (fhOf s) s output)
+  full-way Accepted e = gives (fullTable t (fhOf s)) (packetOf (fhOf s .header) (drop (fhOf s .start) s)) (full-leaves e) (λ output. refl)
+  full-way (Refused r) e = refuses t (numberOf r) (numberOf-least r) same (λ output. refl)
 
   receiveFull-way : Way t (byteAt s 3) (λ output. receiveFull t s output)
   unfolding receiveFull fhOf
   receiveFull-way = full-way (fhJudged (t .settings .contexts) s) refl
 
 ---- COMPRESSED_UDP and COMPRESSED_RTP
-
-refusal-number : (r : Refusal) → 1 ≤ refusal.numberOf r
-refusal-number refusals.Unsound = omega arith
-refusal-number refusals.BadLength = omega arith
-refusal-number refusals.UnknownType = omega arith
-refusal-number refusals.Cut = omega arith
-refusal-number refusals.Forbidden = omega arith
-refusal-number refusals.NoSuchContext = omega arith
-refusal-number refusals.UnusedCode = omega arith
-refusal-number refusals.NotLive = omega arith
-refusal-number refusals.OutOfStep = omega arith
-refusal-number refusals.TooLong = omega arith
-refusal-number refusals.NoRoom = omega arith
 
 module _ (t : Table) (i : ℕ) (sound : Sound t) (among : i < t .settings .contexts) where
   rebuildTo-way : (c : DecompressorContext) (sent : ℕ) (rest : List ℕ) → soundDecompressor c ≡ true → Way t i (λ output. rebuildTo t i c sent rest output)
@@ -164,78 +149,78 @@ module _ (t : Table) (i : ℕ) (sound : Sound t) (among : i < t .settings .conte
       (λ long. refuses t 10 (omega arith) same (λ output. refl))
       (gives (withContext t i c) (packetOf (rebuilt c sent) rest) (one c among e) (λ output. refl))
 
-  settleBy-way : (o : Outcome) (c : DecompressorContext) (sent : ℕ) (rest : List ℕ) → soundDecompressor c ≡ true
+  settleBy-way : (o : Verdict) (c : DecompressorContext) (sent : ℕ) (rest : List ℕ) → soundDecompressor c ≡ true
       → Way t i (λ output. settleBy o t i c sent rest output)
   settleBy-way Accepted c sent rest e = rebuildTo-way c sent rest e
-  settleBy-way (Refused r) c sent rest e = refuses (withContext t i c) (refusal.numberOf r) (refusal-number r) (one c among e) (λ output. refl)
+  settleBy-way (Refused r) c sent rest e = refuses (withContext t i c) (numberOf r) (numberOf-least r) (one c among e) (λ output. refl)
 
-  -- o: what became of the reading
-  settleRead-way : (o : fields.Outcome) (at : ℕ) (b : Applied) (sent : ℕ) (s : List ℕ) → soundDecompressor (b .context) ≡ true
-      → Way t i (λ output. settleRead (place.stopped at o) b t i sent s output)
-  settleRead-way reading.Good at b sent s e = settleBy-way (b .outcome) (b .context) sent (drop at s) e
-  settleRead-way reading.Cut at b sent s e = refuses t 4 (omega arith) same (λ output. refl)
-  settleRead-way reading.Forbidden at b sent s e = refuses t 5 (omega arith) same (λ output. refl)
-  settleRead-way reading.Unused at b sent s e = refuses t 7 (omega arith) same (λ output. refl)
+  -- o: what was found of the reading
+  settleRead-way : (o : Verdict) (at : ℕ) (b : Applied) (sent : ℕ) (s : List ℕ) → soundDecompressor (b .context) ≡ true
+      → Way t i (λ output. settleRead (stopped at o) b t i sent s output)
+  settleRead-way Accepted at b sent s e = settleBy-way (b .verdict) (b .context) sent (drop at s) e
+  settleRead-way (Refused r) at b sent s e = refuses t (numberOf r) (numberOf-least r) same (λ output. refl)
 
-  receiveParts-way : (r : ReadParts) (q : ℕ) (s : List ℕ) → q < 16 → links.PartsSound (r .parts) → Way t i (λ output. receiveParts r t i q s output)
-  receiveParts-way r q s small p =
-      settleRead-way (r .place .outcome) (r .place .cursor .at) (applied (t .settings .repeats) q (contextAt t i) (r .parts)) (r .parts .checksum) s
-      (sound-applied (t .settings .repeats) q (contextAt t i) (r .parts) (omega arith) (parts-sound (r .parts) p) (sound-contextAt t i sound))
+  -- on a live context
+  module _ (live : contextAt t i .status ≡ Live) where
+    receiveParts-way : (r : ReadParts) (q : ℕ) (s : List ℕ) → q < 16 → links.PartsSound (r .parts) → Way t i (λ output. receiveParts r t i q s output)
+    receiveParts-way r q s small p =
+        settleRead-way (r .place .verdict) (r .place .cursor .at) (applied (t .settings .repeats) q (contextAt t i) (r .parts)) (r .parts .checksum) s
+        (sound-applied (t .settings .repeats) q (contextAt t i) (r .parts) (omega arith) (parts-sound (r .parts) p) live (sound-contextAt t i sound))
 
-  receiveWhole-way : (r : ReadWhole) (q : ℕ) (s : List ℕ) → q < 16 → links.PartsSound (r .parts) → links.HeaderSound (r .header)
-      → Way t i (λ output. receiveWhole r t i q s output)
-  receiveWhole-way r q s small p w =
-      settleRead-way (r .place .outcome) (r .place .cursor .at) (appliedWhole (t .settings .repeats) q (contextAt t i) (r .parts) (r .header)) (r .parts .checksum) s
-      (sound-appliedWhole (t .settings .repeats) q (contextAt t i) (r .parts) (r .header) (omega arith)
-      (parts-sound (r .parts) p) (whole-sound (r .header) w) (sound-contextAt t i sound))
+    receiveWhole-way : (r : ReadWhole) (q : ℕ) (s : List ℕ) → q < 16 → links.PartsSound (r .parts) → links.HeaderSound (r .header)
+        → Way t i (λ output. receiveWhole r t i q s output)
+    receiveWhole-way r q s small p w =
+        settleRead-way (r .place .verdict) (r .place .cursor .at)
+        (appliedWhole (t .settings .repeats) q (contextAt t i) (r .parts) (r .header)) (r .parts .checksum) s
+        (sound-appliedWhole (t .settings .repeats) q (contextAt t i) (r .parts) (omega arith) (parts-sound (r .parts) p) live
+        (sound-contextAt t i sound) (r .header) (whole-sound (r .header) w))
 
-  oldForm-way : (h : Head) (s : List ℕ) → h .flags .low < 16 → Way t i (λ output. oldForm t i h s output)
-  unfolding oldForm
-  oldForm-way h s small =
-      receiveWhole-way (wholeOf s (h .place) (h .flags) (contextAt t i .carried)) (h .flags .low) s small
-      (links.wholeOf-sound s (h .place) (h .flags) (contextAt t i .carried)) (links.wholeOf-header s (h .place) (h .flags) (contextAt t i .carried))
+    receiveOld-way : (old : OldForm) (h : Head) (s : List ℕ) → h .flags .low < 16 → Way t i (λ output. receiveOld old t i h s output)
+    unfolding receiveOld
+    receiveOld-way Taken h s small =
+        receiveWhole-way (wholeOf s (h .place) (h .flags) (checksumRead (contextAt t i))) (h .flags .low) s small
+        (links.wholeOf-sound s (h .place) (h .flags) (checksumRead (contextAt t i)))
+        (links.wholeOf-header s (h .place) (h .flags) (checksumRead (contextAt t i)))
 
--- how a CU without F is taken may be replaced by anything that goes one of the two ways
-module _ (old : OldForm)
-    (old-way : (t : Table) (i : ℕ) → Sound t → i < t .settings .contexts → (h : Head) (s : List ℕ) → h .flags .low < 16 → Way t i (λ output. old t i h s output))
-    (t : Table) (sound : Sound t) where
+module _ (old : OldForm) (t : Table) (sound : Sound t) where
   module _ (i : ℕ) (among : i < t .settings .contexts) (h : Head) (s : List ℕ) (small : h .flags .low < 16) where
-    receiveUdp-way : Way t i (λ output. receiveUdp old t i h s output)
-    receiveUdp-way =
-        way-if (h .flags .a)
-        (λ output. receiveParts (cuOf s (h .place) (h .flags) (contextAt t i .carried)) t i (h .flags .low) s output)
-        (λ output. old t i h s output)
-        (λ e. receiveParts-way t i sound among (cuOf s (h .place) (h .flags) (contextAt t i .carried)) (h .flags .low) s small
-        (links.cuOf-sound s (h .place) (h .flags) (contextAt t i .carried)))
-        (old-way t i sound among h s small)
+    module _ (live : contextAt t i .status ≡ Live) where
+      receiveUdp-way : Way t i (λ output. receiveUdp old t i h s output)
+      receiveUdp-way =
+          way-if (h .flags .a)
+          (λ output. receiveParts (cuOf s (h .place) (h .flags) (checksumRead (contextAt t i))) t i (h .flags .low) s output)
+          (λ output. receiveOld old t i h s output)
+          (λ e. receiveParts-way t i sound among live (cuOf s (h .place) (h .flags) (checksumRead (contextAt t i))) (h .flags .low) s small
+          (links.cuOf-sound s (h .place) (h .flags) (checksumRead (contextAt t i))))
+          (receiveOld-way t i sound among live old h s small)
 
-    receiveRtp-way : Way t i (λ output. receiveRtp old t i h s output)
-    receiveRtp-way =
-        receiveParts-way t i sound among (crOf s (h .place) (h .flags) (contextAt t i .carried)) (h .flags .low) s small
-        (links.crOf-sound s (h .place) (h .flags) (contextAt t i .carried))
+      receiveRtp-way : Way t i (λ output. receiveRtp t i h s output)
+      receiveRtp-way =
+          receiveParts-way t i sound among live (crOf s (h .place) (h .flags) (checksumRead (contextAt t i))) (h .flags .low) s small
+          (links.crOf-sound s (h .place) (h .flags) (checksumRead (contextAt t i)))
 
     broken-way : Way t i (λ output. refused (withContext t i (broke (contextAt t i))) 8 output)
     broken-way =
         refuses (withContext t i (broke (contextAt t i))) 8 (omega arith)
         (one (broke (contextAt t i)) among (sound-broke (contextAt t i) (sound-contextAt t i sound))) (λ output. refl)
 
-    receiveOn-way : (c : Status) (kind : ℕ) → Way t i (λ output. receiveOn old c kind t i h s output)
-    receiveOn-way Empty kind = broken-way
-    receiveOn-way Broken kind = broken-way
-    receiveOn-way Live kind =
-        way-if (eqb kind 2) (λ output. receiveUdp old t i h s output) (λ output. receiveRtp old t i h s output) (λ e. receiveUdp-way) receiveRtp-way
+    receiveOn-way : (u : Status) (kind : ℕ) → contextAt t i .status ≡ u → Way t i (λ output. receiveOn old u kind t i h s output)
+    receiveOn-way Empty kind e = broken-way
+    receiveOn-way Broken kind e = broken-way
+    receiveOn-way Live kind e =
+        way-if (eqb kind 2) (λ output. receiveUdp old t i h s output) (λ output. receiveRtp t i h s output) (λ b. receiveUdp-way e) (receiveRtp-way e)
 
   module _ (s : List ℕ) where
     receiveCompressed-way : (kind : ℕ) → Way t (contextOf s) (λ output. receiveCompressed old kind t s output)
     unfolding receiveCompressed
     receiveCompressed-way kind =
         way-if (ltb (contextOf s) (t .settings .contexts))
-        (λ output. cond (place.isGood (headOf s .place .outcome)) (receiveOn old (contextAt t (contextOf s) .status) kind t (contextOf s) (headOf s) s output) (refused t 4 output))
+        (λ output. cond (isAccepted (headOf s .place .verdict)) (receiveOn old (contextAt t (contextOf s) .status) kind t (contextOf s) (headOf s) s output) (refused t 4 output))
         (λ output. refused t 6 output)
-        (λ e. way-if (place.isGood (headOf s .place .outcome))
+        (λ e. way-if (isAccepted (headOf s .place .verdict))
         (λ output. receiveOn old (contextAt t (contextOf s) .status) kind t (contextOf s) (headOf s) s output)
         (λ output. refused t 4 output)
-        (λ g. receiveOn-way (contextOf s) (ltb-true (contextOf s) (t .settings .contexts) e) (headOf s) s (headOf-low s) (contextAt t (contextOf s) .status) kind)
+        (λ g. receiveOn-way (contextOf s) (ltb-true (contextOf s) (t .settings .contexts) e) (headOf s) s (headOf-low s) (contextAt t (contextOf s) .status) kind refl)
         (refuses t 4 (omega arith) same (λ output. refl)))
         (refuses t 6 (omega arith) same (λ output. refl))
 
@@ -259,12 +244,12 @@ module _ (old : OldForm)
       unfolding receiveBy
       receiveBy-way kind =
           way-if (soundOf t)
-          (λ output. cond (leb kind 3) (cond (lengthAllowed old s) (receiveKind old kind t s output) (refused t 2 output)) (refused t 3 output))
+          (λ output. cond (leb kind 3) (cond (lengthAllowed (length s)) (receiveKind old kind t s output) (refused t 2 output)) (refused t 3 output))
           (λ output. refused t 1 output)
           (λ e. way-if (leb kind 3)
-          (λ output. cond (lengthAllowed old s) (receiveKind old kind t s output) (refused t 2 output))
+          (λ output. cond (lengthAllowed (length s)) (receiveKind old kind t s output) (refused t 2 output))
           (λ output. refused t 3 output)
-          (λ f. way-if (lengthAllowed old s) (λ output. receiveKind old kind t s output) (λ output. refused t 2 output)
+          (λ f. way-if (lengthAllowed (length s)) (λ output. receiveKind old kind t s output) (λ output. refused t 2 output)
           (λ g. receiveKind-way kind)
           (refuses t 2 (omega arith) same (λ output. refl)))
           (refuses t 3 (omega arith) same (λ output. refl)))
@@ -274,7 +259,7 @@ module _ (old : OldForm)
 
 module _ (t : Table) (kind : ℕ) (s : List ℕ) (sound : Sound t) (a : AllBytes s) where
   pub receive-way : Way t (named kind s) (λ output. receiveOf t kind s output)
-  receive-way = receiveBy-way oldForm oldForm-way t sound s a kind
+  receive-way = receiveBy-way Taken t sound s a kind
 
   module _ (output : List ℕ) where
     pub receive-leaves : Leaves t (named kind s) (receiveOf t kind s output .table)

@@ -63,7 +63,7 @@ unopened = emptyTable (record { repeats = 0; contexts = 0 })
 
 -- an opening: a table with nothing in it, or 1 and the table that was there
 abbrev pub openBy : Table → Opened → Result
-openBy t (opened.Ready s) = accepted (emptyTable s) [] []
+openBy t (opened.Accepted s) = accepted (emptyTable s) [] []
 openBy t opened.Refused = refused t 1 []
 
 unfoldable pub openOf : Table → (n k : ℕ) → Result

@@ -4,4 +4,5 @@
 // opening are code here; the calls `receive` and `report` have a crate each above.
 // Read `specs/Receive.antt` first: `receiveOf` says all that an arrival does.
 pub mod answer;
+pub mod old;
 pub mod table;

@@ -10,7 +10,7 @@ use crate::answer::Answer;
 use crate::answer::Outcome;
 use context::decompressor::DecompressorContext;
 use context::decompressor::Status;
-use context::refusal::Refusal;
+use packet::refusal::Refusal;
 use settings::Opened;
 use settings::Settings;
 use soundness::decompressor::empty_context;
@@ -19,7 +19,7 @@ use soundness::decompressor::sound_context;
 // The decompressor's contexts, with what it was opened with. Places from `settings.contexts` on stay empty.
 pub struct Table {
     pub settings: Settings,
-    pub contexts: [DecompressorContext; 64],
+    pub contexts: [DecompressorContext; Settings::PLACES],
 }
 
 pub fn is_empty(c: DecompressorContext) -> bool
@@ -41,7 +41,7 @@ fn all_sound(t: Table) -> bool
     let k = t.settings.contexts as usize;
     let mut ok = true;
     let mut i = 0;
-    while i < 64 {
+    while i < Settings::PLACES {
         let c = t.contexts[i];
         ok = ok & sound_context(c) & (is_empty(c) | (i < k));
         i += 1;
@@ -66,7 +66,7 @@ fn empty_table(s: Settings) -> Table
     let c = empty_context();
     Table {
         settings: s,
-        contexts: [c; 64],
+        contexts: [c; Settings::PLACES],
     }
 }
 
@@ -85,7 +85,7 @@ pub fn open(t: Table, n: u32, k: u32) -> Answer
     ensures { λ r. ⌜ said r [] ≡ openOf t n k ⌝ }
 {
     match Settings::open(n, k) {
-        Opened::Ready(s) => Answer {
+        Opened::Accepted(s) => Answer {
             outcome: Outcome::Accepted(0),
             table: empty_table(s),
         },

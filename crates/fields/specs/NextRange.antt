@@ -19,7 +19,8 @@ use Rattle.headers.specs.BytesLaws.{allBytes-byteAt}
 use Rattle.headers.specs.Range.{ListInRange}
 use Rattle.fields.specs.declared.place.Place.{Place}
 use Rattle.fields.specs.Fits.{ListSound}
-use Rattle.fields.specs.Place.{isGood, passed}
+use Rattle.packet.specs.Refusal.{isAccepted}
+use Rattle.fields.specs.Place.{passed}
 use Rattle.fields.specs.Next.{next, taken, formed, readPayload, readVersion, nextByte, nextWord, nextLong, nextDelta16, nextDelta32, nextPayload, nextVersion, nextList}
 
 ---- next: what holds of every answer of the reader holds of the step
@@ -31,9 +32,9 @@ module _ (read : ℕ → Reading) (p : Place) (w : Bool) where
 
   pub next-within : (n : ℕ) → ((at : ℕ) → read at .at ≤ n) → p .cursor .at ≤ n → next read p w .place .cursor .at ≤ n
   unfolding next
-  next-within n h k = by (isGood (p .outcome) && w) refl
+  next-within n h k = by (isAccepted (p .verdict) && w) refl
     where
-      by : (b : Bool) → (isGood (p .outcome) && w) ≡ b → cond b (taken p (read (p .cursor .at))) (passed p) .place .cursor .at ≤ n
+      by : (b : Bool) → (isAccepted (p .verdict) && w) ≡ b → cond b (taken p (read (p .cursor .at))) (passed p) .place .cursor .at ≤ n
       by true e = taken-within n (read (p .cursor .at)) _ (h (p .cursor .at)) k refl
       by false e = k
 
@@ -43,9 +44,9 @@ module _ (read : ℕ → Reading) (p : Place) (w : Bool) where
 
   pub next-value : (Q : ℕ → Type 0) → Q 0 → ((at : ℕ) → Q (read at .value)) → Q (next read p w .value)
   unfolding next
-  next-value Q z h = by (isGood (p .outcome) && w) refl
+  next-value Q z h = by (isAccepted (p .verdict) && w) refl
     where
-      by : (b : Bool) → (isGood (p .outcome) && w) ≡ b → Q (cond b (taken p (read (p .cursor .at))) (passed p) .value)
+      by : (b : Bool) → (isAccepted (p .verdict) && w) ≡ b → Q (cond b (taken p (read (p .cursor .at))) (passed p) .value)
       by true e = taken-value Q (read (p .cursor .at)) _ z (h (p .cursor .at)) refl
       by false e = z
 

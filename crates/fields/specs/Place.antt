@@ -3,35 +3,24 @@
 use Prim.Native.Nat.{ℕ}
 use mathlib.Core.Bool.{Bool, true, false, cond}
 use lib.Dec.{eqb}
-use Rattle.fields.specs.declared.place.Outcome.{Outcome}
-use Rattle.fields.specs.declared.place.Outcome.the-variants.{Good, Cut, Forbidden, Unused}
+use Rattle.packet.specs.declared.refusal.Verdict.{Verdict}
+use Rattle.packet.specs.declared.refusal.Verdict.the-variants.{Accepted, Refused}
+use Rattle.packet.specs.declared.refusal.Refusal.the-variants.{Cut, Forbidden, UnusedCode}
 use Rattle.fields.specs.declared.place.Place.{Place}
 use Rattle.fields.specs.declared.place.Got8.{Got8}
 use Rattle.fields.specs.declared.place.Got16.{Got16}
 use Rattle.fields.specs.declared.place.Got32.{Got32}
 
--- rule 3.1: the number of an outcome, and the outcome with a number
-abbrev pub numberOf : Outcome → ℕ
-numberOf Good = 0
-numberOf Cut = 4
-numberOf Forbidden = 5
-numberOf Unused = 7
-
-abbrev pub outcomeOf : ℕ → Outcome
-outcomeOf n = cond (eqb n 0) Good (cond (eqb n 4) Cut (cond (eqb n 5) Forbidden Unused))
-
-abbrev pub isGood : Outcome → Bool
-isGood Good = true
-isGood Cut = false
-isGood Forbidden = false
-isGood Unused = false
+-- rule 3.1: what a reader's answer with this number says of the field
+abbrev pub verdictOf : ℕ → Verdict
+verdictOf n = cond (eqb n 0) Accepted (Refused (cond (eqb n 4) Cut (cond (eqb n 5) Forbidden UnusedCode)))
 
 -- a reading that stands at a place, and one that was refused there
-abbrev pub stopped : ℕ → Outcome → Place
-stopped at o = record { outcome = o; cursor = record { at = at } }
+abbrev pub stopped : ℕ → Verdict → Place
+stopped at v = record { verdict = v; cursor = record { at = at } }
 
 abbrev pub good : ℕ → Place
-good at = stopped at Good
+good at = stopped at Accepted
 
 -- one step: where the reading stands then, whether the field was there, and its value, 0 where it was not
 pub record Step : Type 0 where

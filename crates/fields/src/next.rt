@@ -5,9 +5,7 @@ ghost use Rattle.fields.specs.Next.{nextByte, nextWord, nextLong, nextDe
 use crate::place::Got8;
 use crate::place::Got16;
 use crate::place::Got32;
-use crate::place::Outcome;
 use crate::place::Place;
-use crate::place::is_good;
 use crate::place::none8;
 use crate::place::none16;
 use crate::place::none32;
@@ -20,17 +18,19 @@ use codes::cursor::ReadDelta16;
 use codes::cursor::ReadDelta32;
 use codes::cursor::ReadLong;
 use codes::cursor::ReadWord;
+use packet::refusal::Refusal;
+use packet::refusal::is_accepted;
 
 // Each reads the field at p where it is wanted, unless a field before it was refused.
 pub fn next_byte(s: &[u8], p: Place, wanted: bool) -> Got8
     ensures { λ r. ⌜ r ≡ nextByte (now (s .entry)) p wanted ⌝ }
 {
-    let o = p.outcome;
+    let found = p.verdict;
     let c = p.cursor;
-    if is_good(o) & wanted {
+    if is_accepted(found) & wanted {
         match c.byte(s) {
             ReadByte::Byte(v, n) => { there8(n, v) }
-            ReadByte::Cut => { none8(stop(c, Outcome::Cut)) }
+            ReadByte::Cut => { none8(stop(c, Refusal::Cut)) }
         }
     } else {
         none8(p)
@@ -40,12 +40,12 @@ pub fn next_byte(s: &[u8], p: Place, wanted: bool) -> Got8
 pub fn next_word(s: &[u8], p: Place, wanted: bool) -> Got16
     ensures { λ r. ⌜ r ≡ nextWord (now (s .entry)) p wanted ⌝ }
 {
-    let o = p.outcome;
+    let found = p.verdict;
     let c = p.cursor;
-    if is_good(o) & wanted {
+    if is_accepted(found) & wanted {
         match c.word(s) {
             ReadWord::Word(v, n) => { there16(n, v) }
-            ReadWord::Cut => { none16(stop(c, Outcome::Cut)) }
+            ReadWord::Cut => { none16(stop(c, Refusal::Cut)) }
         }
     } else {
         none16(p)
@@ -55,12 +55,12 @@ pub fn next_word(s: &[u8], p: Place, wanted: bool) -> Got16
 pub fn next_long(s: &[u8], p: Place, wanted: bool) -> Got32
     ensures { λ r. ⌜ r ≡ nextLong (now (s .entry)) p wanted ⌝ }
 {
-    let o = p.outcome;
+    let found = p.verdict;
     let c = p.cursor;
-    if is_good(o) & wanted {
+    if is_accepted(found) & wanted {
         match c.long(s) {
             ReadLong::Long(v, n) => { there32(n, v) }
-            ReadLong::Cut => { none32(stop(c, Outcome::Cut)) }
+            ReadLong::Cut => { none32(stop(c, Refusal::Cut)) }
         }
     } else {
         none32(p)
@@ -70,13 +70,13 @@ pub fn next_long(s: &[u8], p: Place, wanted: bool) -> Got32
 pub fn next_delta16(s: &[u8], p: Place, wanted: bool) -> Got16
     ensures { λ r. ⌜ r ≡ nextDelta16 (now (s .entry)) p wanted ⌝ }
 {
-    let o = p.outcome;
+    let found = p.verdict;
     let c = p.cursor;
-    if is_good(o) & wanted {
+    if is_accepted(found) & wanted {
         match c.delta16(s) {
             ReadDelta16::Delta(v, n) => { there16(n, v) }
-            ReadDelta16::Cut => { none16(stop(c, Outcome::Cut)) }
-            ReadDelta16::Unused => { none16(stop(c, Outcome::Unused)) }
+            ReadDelta16::Cut => { none16(stop(c, Refusal::Cut)) }
+            ReadDelta16::Unused => { none16(stop(c, Refusal::UnusedCode)) }
         }
     } else {
         none16(p)
@@ -86,13 +86,13 @@ pub fn next_delta16(s: &[u8], p: Place, wanted: bool) -> Got16
 pub fn next_delta32(s: &[u8], p: Place, wanted: bool) -> Got32
     ensures { λ r. ⌜ r ≡ nextDelta32 (now (s .entry)) p wanted ⌝ }
 {
-    let o = p.outcome;
+    let found = p.verdict;
     let c = p.cursor;
-    if is_good(o) & wanted {
+    if is_accepted(found) & wanted {
         match c.delta32(s) {
             ReadDelta32::Delta(v, n) => { there32(n, v) }
-            ReadDelta32::Cut => { none32(stop(c, Outcome::Cut)) }
-            ReadDelta32::Unused => { none32(stop(c, Outcome::Unused)) }
+            ReadDelta32::Cut => { none32(stop(c, Refusal::Cut)) }
+            ReadDelta32::Unused => { none32(stop(c, Refusal::UnusedCode)) }
         }
     } else {
         none32(p)
@@ -103,17 +103,17 @@ pub fn next_delta32(s: &[u8], p: Place, wanted: bool) -> Got32
 pub fn next_payload(s: &[u8], p: Place, wanted: bool) -> Got8
     ensures { λ r. ⌜ r ≡ nextPayload (now (s .entry)) p wanted ⌝ }
 {
-    let o = p.outcome;
+    let found = p.verdict;
     let c = p.cursor;
-    if is_good(o) & wanted {
+    if is_accepted(found) & wanted {
         match c.byte(s) {
             ReadByte::Byte(v, n) => {
                 if v < 128 {
                     return there8(n, v);
                 }
-                none8(stop(c, Outcome::Forbidden))
+                none8(stop(c, Refusal::Forbidden))
             }
-            ReadByte::Cut => { none8(stop(c, Outcome::Cut)) }
+            ReadByte::Cut => { none8(stop(c, Refusal::Cut)) }
         }
     } else {
         none8(p)
@@ -137,21 +137,21 @@ fn has_left(s: &[u8], at: usize, n: usize) -> bool
 pub fn next_version(s: &[u8], p: Place) -> Got8
     ensures { λ r. ⌜ r ≡ nextVersion (now (s .entry)) p ⌝ }
 {
-    let o = p.outcome;
+    let found = p.verdict;
     let c = p.cursor;
-    if !is_good(o) {
+    if !is_accepted(found) {
         return none8(p);
     }
     if !has_left(s, c.at, 12) {
-        return none8(stop(c, Outcome::Cut));
+        return none8(stop(c, Refusal::Cut));
     }
     match c.byte(s) {
         ReadByte::Byte(v, n) => {
             if v / 64 == 2 {
                 return there8(n, v);
             }
-            none8(stop(c, Outcome::Forbidden))
+            none8(stop(c, Refusal::Forbidden))
         }
-        ReadByte::Cut => { none8(stop(c, Outcome::Cut)) }
+        ReadByte::Cut => { none8(stop(c, Refusal::Cut)) }
     }
 }

@@ -1,23 +1,18 @@
 ghost use mathlib.Core.Path.{_≡_};
 ghost use mathlib.Core.Bool.{true};
-ghost use Rattle.fields.specs.Place.{isGood, good, stopped, step, passed, got8, got16, got32};
+ghost use Rattle.packet.specs.declared.refusal.Verdict.the-variants.{Refused};
+ghost use Rattle.fields.specs.Place.{good, stopped, step, passed, got8, got16, got32};
 use codes::cursor::Cursor;
 use packet::csrc::Csrc;
+use packet::refusal::Refusal;
+use packet::refusal::Verdict;
 use packet::sent::Sent8;
 use packet::sent::Sent16;
 use packet::sent::Sent32;
 
-// What has become of a reading so far.
-pub enum Outcome {
-    Good,
-    Cut,
-    Forbidden,
-    Unused,
-}
-
-// A reading's outcome, and where it stands: past the last field, or at the one that was refused.
+// What was found of a reading so far, and where it stands: past the last field, or at the one that was refused.
 pub struct Place {
-    pub outcome: Outcome,
+    pub verdict: Verdict,
     pub cursor: Cursor,
 }
 
@@ -42,23 +37,12 @@ pub struct GotList {
     pub list: Csrc,
 }
 
-pub fn is_good(o: Outcome) -> bool
-    ensures { λ r. ⌜ r ≡ isGood o ⌝ }
-{
-    match o {
-        Outcome::Good => true,
-        Outcome::Cut => false,
-        Outcome::Forbidden => false,
-        Outcome::Unused => false,
-    }
-}
-
 // A reading that was refused at a field.
-pub fn stop(cursor: Cursor, o: Outcome) -> Place
-    ensures { λ r. ⌜ r ≡ stopped (cursor .at) o ⌝ }
+pub fn stop(cursor: Cursor, why: Refusal) -> Place
+    ensures { λ r. ⌜ r ≡ stopped (cursor .at) (Refused why) ⌝ }
 {
     Place {
-        outcome: o,
+        verdict: Verdict::Refused(why),
         cursor: cursor,
     }
 }
@@ -69,7 +53,7 @@ pub fn there8(next: Cursor, v: u8) -> Got8
 {
     Got8 {
         place: Place {
-            outcome: Outcome::Good,
+            verdict: Verdict::Accepted,
             cursor: next,
         },
         field: Sent8 {
@@ -84,7 +68,7 @@ pub fn there16(next: Cursor, v: u16) -> Got16
 {
     Got16 {
         place: Place {
-            outcome: Outcome::Good,
+            verdict: Verdict::Accepted,
             cursor: next,
         },
         field: Sent16 {
@@ -99,7 +83,7 @@ pub fn there32(next: Cursor, v: u32) -> Got32
 {
     Got32 {
         place: Place {
-            outcome: Outcome::Good,
+            verdict: Verdict::Accepted,
             cursor: next,
         },
         field: Sent32 {

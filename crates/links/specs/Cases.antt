@@ -24,12 +24,11 @@ use Rattle.headers.specs.Range.{ListInRange}
 use Rattle.headers.specs.Cases.{sample}
 use Rattle.fields.specs.declared.place.Place.{Place}
 use Rattle.fields.specs.Fits.{Sendable}
-use Rattle.fields.specs.Place.{numberOf}
 use Rattle.fields.specs.NextRange.{zero-words}
 use Rattle.fields.specs.Next.{next, nextByte, nextWord, nextLong, nextDelta16, nextDelta32, nextPayload, readPayload}
 use Rattle.links.specs.Sent.{none8, none16, none32}
 use Rattle.links.specs.Fits.{CuFits, CrFits}
-use Rattle.links.specs.Judgement.{judgementNumber}
+use Rattle.packet.specs.Refusal.{verdictNumber}
 use Rattle.links.specs.Head.{headOf}
 use Rattle.links.specs.Cu.{cuBytes, changesOf, valuesOf, cuRest, cuOf}
 use Rattle.links.specs.Cr.{crBytes, secondWith, secondOf, deltasOf, crRest, crOf}
@@ -101,7 +100,7 @@ abbrev shown : List ℕ → ℕ → ℕ → codes.Shown
 shown b n v = record { bytes = b; number = n; value = v }
 
 abbrev readTo : List ℕ → Place → codes.Shown
-readTo b p = shown b (numberOf (p .outcome)) (p .cursor .at)
+readTo b p = shown b (verdictNumber (p .verdict)) (p .cursor .at)
 
 -- the length fields of some bytes
 abbrev lengthFields : List ℕ → List ℕ
@@ -120,8 +119,8 @@ full c g q = fhBytes c g q 40 (headerOf sample)
 
 abbrev pub given : Case → codes.Shown
 given (difference-case c) = codes.given c
-given (fh c g q b) = shown (lengthFields (full c g q)) (judgementNumber (fhJudged 64 (full c g q))) (fhOf (full c g q) .start)
-given (cs r b) = shown (csBytes (r ∷ [])) (judgementNumber (requestJudged 64 b)) (length b)
+given (fh c g q b) = shown (lengthFields (full c g q)) (verdictNumber (fhJudged 64 (full c g q))) (fhOf (full c g q) .start)
+given (cs r b) = shown (csBytes (r ∷ [])) (verdictNumber (requestJudged 64 b)) (length b)
 given (cr c q h b) = readTo (crBytes c q false h) (crOf b (headOf b .place) (headOf b .flags) false .place)
 given (cu c q h b) = readTo (cuBytes c q false h) (cuOf b (headOf b .place) (headOf b .flags) false .place)
 

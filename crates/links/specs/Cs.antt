@@ -8,9 +8,10 @@ use lib.ListN.{length}
 use Rattle.codes.specs.Reading.{byteAt}
 use Rattle.bytes.specs.declared.flags.Flags.{Flags}
 use Rattle.bytes.specs.Flags.{flagsOf, byteOf}
-use Rattle.links.specs.declared.judgement.Judgement.{Judgement}
-use Rattle.links.specs.declared.judgement.Judgement.the-variants.{Good, Cut, Forbidden, NoSuchContext}
-use Rattle.links.specs.Judgement.{firstRefusal}
+use Rattle.packet.specs.declared.refusal.Verdict.{Verdict}
+use Rattle.packet.specs.declared.refusal.Verdict.the-variants.{Accepted, Refused}
+use Rattle.packet.specs.declared.refusal.Refusal.the-variants.{Cut, Forbidden, NoSuchContext}
+use Rattle.packet.specs.Refusal.{firstRefusal}
 
 ---- bytes
 
@@ -57,20 +58,20 @@ abbrev pub bitsForbidden : Flags → (generation : ℕ) → Bool
 bitsForbidden f generation = f .b || f .c || f .d || leb 64 generation
 
 -- k: how many contexts there are
-unfoldable pub recordWith : (k context : ℕ) → Flags → (generation : ℕ) → Judgement
-recordWith k context f generation = cond (leb k context) NoSuchContext (cond (bitsForbidden f generation) Forbidden Good)
+unfoldable pub recordWith : (k context : ℕ) → Flags → (generation : ℕ) → Verdict
+recordWith k context f generation = cond (leb k context) (Refused NoSuchContext) (cond (bitsForbidden f generation) (Refused Forbidden) Accepted)
 
-unfoldable pub recordJudged : (k : ℕ) → List ℕ → ℕ → Judgement
+unfoldable pub recordJudged : (k : ℕ) → List ℕ → ℕ → Verdict
 recordJudged k s i = recordWith k (recordContext s i) (flagsOf (byteAt s (recordAt i + 1))) (byteAt s (recordAt i + 2))
 
 -- n records from record i on: the first that is refused
-abbrev pub recordsJudged : (k : ℕ) → List ℕ → (i n : ℕ) → Judgement
-recordsJudged k s i zero = Good
+abbrev pub recordsJudged : (k : ℕ) → List ℕ → (i n : ℕ) → Verdict
+recordsJudged k s i zero = Accepted
 recordsJudged k s i (suc n) = firstRefusal (recordJudged k s i) (recordsJudged k s (suc i) n)
 
-unfoldable pub requestJudged : (k : ℕ) → List ℕ → Judgement
+unfoldable pub requestJudged : (k : ℕ) → List ℕ → Verdict
 requestJudged k s =
-    cond (ltb (length s) 2) Cut
-    (cond (not (eqb (byteAt s 0) 1) || eqb (recordCount s) 0) Forbidden
-    (cond (not (eqb (length s) (2 + 3 * recordCount s))) Cut
+    cond (ltb (length s) 2) (Refused Cut)
+    (cond (not (eqb (byteAt s 0) 1) || eqb (recordCount s) 0) (Refused Forbidden)
+    (cond (not (eqb (length s) (2 + 3 * recordCount s))) (Refused Cut)
     (recordsJudged k s 0 (recordCount s))))

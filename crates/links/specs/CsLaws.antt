@@ -17,28 +17,30 @@ use Rattle.codes.specs.RoundTrip.{left-first, left-byte, left-after}
 use Rattle.bytes.specs.declared.flags.Flags.{Flags}
 use Rattle.bytes.specs.Flags.{flagsOf}
 use Rattle.bytes.specs.FlagsLaws.{flagsOf-byteOf}
-use Rattle.links.specs.declared.judgement.Judgement.{Judgement}
-use Rattle.links.specs.declared.judgement.Judgement.the-variants.{Good, Cut, Forbidden, NoSuchContext}
-use Rattle.links.specs.Judgement.{firstRefusal}
+use Rattle.packet.specs.declared.refusal.Verdict.{Verdict}
+use Rattle.packet.specs.declared.refusal.Verdict.the-variants.{Accepted, Refused}
+use Rattle.packet.specs.declared.refusal.Refusal.the-variants.{Cut, Forbidden, NoSuchContext}
+use Rattle.packet.specs.Refusal.{firstRefusal}
+use Rattle.packet.specs.RefusalLaws.{firstRefusal-accepted}
 use Rattle.fields.specs.FlagsRange.{byteOf-value}
 use Rattle.links.specs.Cs.{State, recordFlags, recordBytes, recordsBytes, csBytes, recordCount, recordAt, recordContext, recordAsks, bitsForbidden, recordWith, recordJudged, recordsJudged, requestJudged}
 
 ---- recordWith: context number, then bits
 
 module _ (k context : ℕ) (f : Flags) (generation : ℕ) where
-  pub recordWith-context : k ≤ context → recordWith k context f generation ≡ NoSuchContext
+  pub recordWith-context : k ≤ context → recordWith k context f generation ≡ (Refused NoSuchContext)
   unfolding recordWith
   recordWith-context h = rw (le-leb k context h)
 
-  pub recordWith-bits : context < k → (b : Bool) → bitsForbidden f generation ≡ b → recordWith k context f generation ≡ cond b Forbidden Good
+  pub recordWith-bits : context < k → (b : Bool) → bitsForbidden f generation ≡ b → recordWith k context f generation ≡ cond b (Refused Forbidden) Accepted
   unfolding recordWith
   recordWith-bits h b e = rw (lt-leb k context h, e)
 
-  recordWith-good : recordWith k context f generation ≡ Good → context < k
+  recordWith-good : recordWith k context f generation ≡ Accepted → context < k
   unfolding recordWith
   recordWith-good = by (leb k context) refl
     where
-      by : (b : Bool) → leb k context ≡ b → cond b NoSuchContext (cond (bitsForbidden f generation) Forbidden Good) ≡ Good → context < k
+      by : (b : Bool) → leb k context ≡ b → cond b (Refused NoSuchContext) (cond (bitsForbidden f generation) (Refused Forbidden) Accepted) ≡ Accepted → context < k
       by true e g = let z : _≡_ {A = ℕ} 0 1 = cc in absurd (omega arith)
       by false e g = leb-false _ _ e
 
@@ -50,7 +52,7 @@ module _ (k : ℕ) (s : List ℕ) where
       → recordsJudged k s i (n - i) ≡ firstRefusal (recordJudged k s i) (recordsJudged k s (i + 1) (n - (i + 1)))
   recordsJudged-more i n h = let e : n - i ≡ suc (n - (i + 1)) = omega arith in rw (e, add-one)
 
-  pub recordsJudged-none : (i n : ℕ) → n ≤ i → recordsJudged k s i (n - i) ≡ Good
+  pub recordsJudged-none : (i n : ℕ) → n ≤ i → recordsJudged k s i (n - i) ≡ Accepted
   recordsJudged-none i n h = let e : n - i ≡ 0 = omega arith in rw e
 
 ---- what a good request is
@@ -60,27 +62,20 @@ pub record RequestGood (k : ℕ) (s : List ℕ) : Type 0 where
   pub contexts : (i : ℕ) → i < recordCount s → recordContext s i < k
 
 module _ (k : ℕ) (s : List ℕ) where
-  recordJudged-context : (i : ℕ) → recordJudged k s i ≡ Good → recordContext s i < k
+  recordJudged-context : (i : ℕ) → recordJudged k s i ≡ Accepted → recordContext s i < k
   unfolding recordJudged
   recordJudged-context i = recordWith-good k _ (flagsOf (byteAt s (recordAt i + 1))) (byteAt s (recordAt i + 2))
 
-  -- the first of two judgements is good, and so is the second
-  first-good : (a b : Judgement) → firstRefusal a b ≡ Good → (a ≡ Good) × (b ≡ Good)
-  first-good Good b e = (refl, e)
-  first-good Cut b e = (e, cc)
-  first-good Forbidden b e = (e, cc)
-  first-good NoSuchContext b e = (e, cc)
-
-  recordsJudged-contexts : (n i : ℕ) → recordsJudged k s i n ≡ Good → (j : ℕ) → j < n → recordContext s (i + j) < k
+  recordsJudged-contexts : (n i : ℕ) → recordsJudged k s i n ≡ Accepted → (j : ℕ) → j < n → recordContext s (i + j) < k
   recordsJudged-contexts zero i e j h = absurd (omega arith)
   recordsJudged-contexts (suc n) i e zero h =
-      rw add-zero (recordJudged-context i (first-good (recordJudged k s i) (recordsJudged k s (suc i) n) e .0))
+      rw add-zero (recordJudged-context i (firstRefusal-accepted (recordJudged k s i) (recordsJudged k s (suc i) n) e .0))
   recordsJudged-contexts (suc n) i e (suc j) h =
       let q : i + suc j ≡ suc i + j = omega arith in
-      rw q (recordsJudged-contexts n (suc i) (first-good (recordJudged k s i) (recordsJudged k s (suc i) n) e .1) j (omega arith))
+      rw q (recordsJudged-contexts n (suc i) (firstRefusal-accepted (recordJudged k s i) (recordsJudged k s (suc i) n) e .1) j (omega arith))
 
   request-by : (a b c : Bool) → not (eqb (length s) (2 + 3 * recordCount s)) ≡ c
-      → cond a Cut (cond b Forbidden (cond c Cut (recordsJudged k s 0 (recordCount s)))) ≡ Good → RequestGood k s
+      → cond a (Refused Cut) (cond b (Refused Forbidden) (cond c (Refused Cut) (recordsJudged k s 0 (recordCount s)))) ≡ Accepted → RequestGood k s
   request-by true b c f e = let z : _≡_ {A = ℕ} 0 1 = cc in absurd (omega arith)
   request-by false true c f e = let z : _≡_ {A = ℕ} 0 1 = cc in absurd (omega arith)
   request-by false false true f e = let z : _≡_ {A = ℕ} 0 1 = cc in absurd (omega arith)
@@ -89,7 +84,7 @@ module _ (k : ℕ) (s : List ℕ) where
     contexts = λ j h. rw zero-add at (recordsJudged-contexts (recordCount s) 0 e j h);
   }
 
-  pub requestJudged-good : requestJudged k s ≡ Good → RequestGood k s
+  pub requestJudged-good : requestJudged k s ≡ Accepted → RequestGood k s
   unfolding requestJudged
   requestJudged-good e =
       request-by (ltb (length s) 2) (not (eqb (byteAt s 0) 1) || eqb (recordCount s) 0) (not (eqb (length s) (2 + 3 * recordCount s))) refl e
@@ -121,7 +116,7 @@ recordsBytes-append (r ∷ rs) qs = rw (recordsBytes-append rs qs)
 
 module _ (k : ℕ) (s : List ℕ) where
   record-good : (i : ℕ) (r : State) (l : List ℕ) → StateFits k r → drop (recordAt i) s ≡ recordBytes (r .context) (r .link) (r .generation) ++ l
-      → recordJudged k s i ≡ Good
+      → recordJudged k s i ≡ Accepted
   unfolding recordJudged
   record-good i r l f e =
       rw (
@@ -137,12 +132,12 @@ module _ (k : ℕ) (s : List ℕ) where
       let q : recordAt (suc i) ≡ recordAt i + 3 = omega arith in
       rw q (left-after s (recordAt i) _ e 3)
 
-  records-good : (rs : List State) (i : ℕ) → StatesFit k rs → drop (recordAt i) s ≡ recordsBytes rs → recordsJudged k s i (length rs) ≡ Good
+  records-good : (rs : List State) (i : ℕ) → StatesFit k rs → drop (recordAt i) s ≡ recordsBytes rs → recordsJudged k s i (length rs) ≡ Accepted
   records-good [] i f e = refl
   records-good (r ∷ rs) i (more-fit h f) e = rw (record-good i r (recordsBytes rs) h e) (records-good rs (suc i) f (next-record i r (recordsBytes rs) e))
 
 -- a report of at least one context is a good request
-pub requestJudged-csBytes : (k : ℕ) (rs : List State) → 0 < length rs → StatesFit k rs → requestJudged k (csBytes rs) ≡ Good
+pub requestJudged-csBytes : (k : ℕ) (rs : List State) → 0 < length rs → StatesFit k rs → requestJudged k (csBytes rs) ≡ Accepted
 unfolding requestJudged csBytes
 requestJudged-csBytes k rs h f =
     let n = length-recordsBytes rs in

@@ -10,8 +10,9 @@ use Rattle.packet.specs.declared.header.Header.{Header}
 use Rattle.headers.specs.Header.{countAt, headerOf, headerBytes}
 use Rattle.headers.specs.Checksum.{ipChecksumOf, ipChecksum}
 use Rattle.headers.specs.Compressible.{fixedForm}
-use Rattle.links.specs.declared.judgement.Judgement.{Judgement}
-use Rattle.links.specs.declared.judgement.Judgement.the-variants.{Good, Cut, Forbidden, NoSuchContext}
+use Rattle.packet.specs.declared.refusal.Verdict.{Verdict}
+use Rattle.packet.specs.declared.refusal.Verdict.the-variants.{Accepted, Refused}
+use Rattle.packet.specs.declared.refusal.Refusal.the-variants.{Cut, Forbidden, NoSuchContext}
 use Rattle.links.specs.declared.fh.FullHeader.{FullHeader}
 
 ---- bytes
@@ -35,12 +36,12 @@ abbrev pub checksumRight : List ℕ → Bool
 checksumRight s = eqb (wordAt s 10) (ipChecksumOf s (length s))
 
 -- k: how many contexts there are
-unfoldable pub fhJudged : (k : ℕ) → List ℕ → Judgement
+unfoldable pub fhJudged : (k : ℕ) → List ℕ → Verdict
 fhJudged k s =
-    cond (ltb (length s) 40) Cut
-    (cond (leb k (byteAt s 3)) NoSuchContext
-    (cond (not (fixedForm s && fieldsForm s && checksumRight s)) Forbidden
-    (cond (ltb (length s) (40 + 4 * countAt s 28)) Cut Good)))
+    cond (ltb (length s) 40) (Refused Cut)
+    (cond (leb k (byteAt s 3)) (Refused NoSuchContext)
+    (cond (not (fixedForm s && fieldsForm s && checksumRight s)) (Refused Forbidden)
+    (cond (ltb (length s) (40 + 4 * countAt s 28)) (Refused Cut) Accepted)))
 
 ---- what it says
 

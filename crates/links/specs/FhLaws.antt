@@ -17,7 +17,8 @@ use Rattle.headers.specs.Compressible.{fixedForm}
 use Rattle.headers.specs.Range.{HeaderInRange}
 use Rattle.headers.specs.HeaderLaws.{countAt-headerBytes, headerOf-headerBytes, headerOf-range, udpLength-headerBytes, ipChecksum-headerBytes, fixedForm-headerBytes, length-headerBytes, allBytes-headerBytes}
 use Rattle.headers.specs.ChecksumLaws.{ipChecksumOf-headerBytes}
-use Rattle.links.specs.declared.judgement.Judgement.the-variants.{Good, Cut, Forbidden, NoSuchContext}
+use Rattle.packet.specs.declared.refusal.Verdict.the-variants.{Accepted, Refused}
+use Rattle.packet.specs.declared.refusal.Refusal.the-variants.{Cut, Forbidden, NoSuchContext}
 use Rattle.links.specs.Fh.{ipField, fhBytes, fieldsForm, checksumRight, fhJudged, fhOf}
 
 ---- what is told by a full header that is judged good
@@ -33,7 +34,7 @@ module _ (k : ℕ) (s : List ℕ) where
   and-first false b c e = sym e
 
   judged-by : (a b c d : Bool) → leb k (byteAt s 3) ≡ b → not (fixedForm s && fieldsForm s && checksumRight s) ≡ c
-      → ltb (length s) (40 + 4 * countAt s 28) ≡ d → cond a Cut (cond b NoSuchContext (cond c Forbidden (cond d Cut Good))) ≡ Good → FhGood k s
+      → ltb (length s) (40 + 4 * countAt s 28) ≡ d → cond a (Refused Cut) (cond b (Refused NoSuchContext) (cond c (Refused Forbidden) (cond d (Refused Cut) Accepted))) ≡ Accepted → FhGood k s
   judged-by true b c d f g h e = let z : _≡_ {A = ℕ} 0 1 = cc in absurd (omega arith)
   judged-by false true c d f g h e = let z : _≡_ {A = ℕ} 0 1 = cc in absurd (omega arith)
   judged-by false false true d f g h e = let z : _≡_ {A = ℕ} 0 1 = cc in absurd (omega arith)
@@ -44,7 +45,7 @@ module _ (k : ℕ) (s : List ℕ) where
     form = and-first (fixedForm s) (fieldsForm s) (checksumRight s) g;
   }
 
-  pub fhJudged-good : fhJudged k s ≡ Good → FhGood k s
+  pub fhJudged-good : fhJudged k s ≡ Accepted → FhGood k s
   unfolding fhJudged
   fhJudged-good e =
       judged-by (ltb (length s) 40) (leb k (byteAt s 3)) (not (fixedForm s && fieldsForm s && checksumRight s)) (ltb (length s) (40 + 4 * countAt s 28)) refl refl refl e
@@ -56,11 +57,11 @@ module _ (s : List ℕ) where
   unfolding fhOf headerOf rtpAt
   fhOf-start = refl
 
-  pub fhOf-within : (k : ℕ) → fhJudged k s ≡ Good → fhOf s .start ≤ length s
+  pub fhOf-within : (k : ℕ) → fhJudged k s ≡ Accepted → fhOf s .start ≤ length s
   unfolding fhOf
   fhOf-within k e = fhJudged-good k s e .whole
 
-  pub fhOf-context : (k : ℕ) → fhJudged k s ≡ Good → fhOf s .context < k
+  pub fhOf-context : (k : ℕ) → fhJudged k s ≡ Accepted → fhOf s .context < k
   unfolding fhOf
   fhOf-context k e = fhJudged-good k s e .context
 
@@ -156,7 +157,7 @@ module _ (k context generation link total : ℕ) (h : Header) (fits : FhFits k c
     checksum-holds e = rw (← e) (eq-eqb _ _ (checksum-word ∙ sym checksum-worked))
 
     -- a full header, followed by anything that makes up its packet, is judged good
-    pub fhJudged-fhBytes : total ≡ length packet → fhJudged k packet ≡ Good
+    pub fhJudged-fhBytes : total ≡ length packet → fhJudged k packet ≡ Accepted
     unfolding fhJudged
     fhJudged-fhBytes e =
         let n = length-append (fhBytes context generation link total h) rest in

@@ -1,4 +1,3 @@
-pub mod Judgement
 pub mod Fh
 pub mod FhLaws
 pub mod Cs

@@ -10,5 +10,4 @@ pub mod cr;
 pub mod cu;
 pub mod fh;
 pub mod head;
-pub mod judgement;
 pub mod whole;

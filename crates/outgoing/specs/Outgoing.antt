@@ -1,13 +1,12 @@
 -- Iarwennol. What goes out on a context (rules 6.1 to 6.3, 8): a packet's step, its link type and its bytes.
 -- Used by the compressor's send, and by the theorem on lists of calls (crtp).
 use Prim.Native.Nat.{ℕ}
-use mathlib.Core.Bool.{not}
 use mathlib.Core.List.{List}
 use Rattle.packet.specs.declared.header.Header.{Header}
 use Rattle.links.specs.Fh.{fhBytes}
 use Rattle.links.specs.Cu.{cuBytes}
 use Rattle.links.specs.Cr.{crBytes}
-use Rattle.context.specs.Compressor.{firstStep, stepOf}
+use Rattle.context.specs.Compressor.{firstStep, stepOf, checksumSent}
 use Rattle.context.specs.declared.compressor.Usage.{Usage}
 use Rattle.context.specs.declared.compressor.Usage.the-variants.{Empty, Live}
 use Rattle.context.specs.declared.compressor.CompressorContext.{CompressorContext}
@@ -23,17 +22,11 @@ stepBy Live n h c = stepOf n h c
 unfoldable pub stepOn : (n : ℕ) → Header → CompressorContext → Step
 stepOn n h c = stepBy (c .status) n h c
 
--- rule 1.1
-abbrev pub kindNumber : Kind → ℕ
-kindNumber FullHeader = 1
-kindNumber CompressedUdp = 2
-kindNumber CompressedRtp = 3
-
 -- rules 6.1 to 6.3: the header that goes out on context i for the header h of a packet of total bytes
 abbrev pub linkBy : Kind → (i total : ℕ) → Header → Step → List ℕ
 linkBy FullHeader i total h a = fhBytes i (a .link .generation) (a .link .sequence) total h
-linkBy CompressedUdp i total h a = cuBytes i (a .link .sequence) (not (a .context .blank)) (a .parts)
-linkBy CompressedRtp i total h a = crBytes i (a .link .sequence) (not (a .context .blank)) (a .parts)
+linkBy CompressedUdp i total h a = cuBytes i (a .link .sequence) (checksumSent (a .context)) (a .parts)
+linkBy CompressedRtp i total h a = crBytes i (a .link .sequence) (checksumSent (a .context)) (a .parts)
 
 unfoldable pub linkBytes : (i total : ℕ) → Header → Step → List ℕ
 linkBytes i total h a = linkBy (a .kind) i total h a

@@ -1,20 +1,20 @@
 -- Iarwennol. How many bytes go out on a context before the rest of the packet, and what is relied on when they are written.
 -- Used by the send, which computes the exact length before it writes (rule 3.1, refusal 11).
 use Prim.Native.Nat.{ℕ, _≤_, _<_}
-use mathlib.Core.Bool.{not}
 use lib.ListN.{length}
 use Rattle.packet.specs.declared.header.Header.{Header}
 use Rattle.headers.specs.Header.{headerSize}
 use Rattle.headers.specs.Range.{HeaderInRange}
 use Rattle.links_write.specs.Size.{cuSize, crSize}
+use Rattle.context.specs.Compressor.{checksumSent}
 use Rattle.context.specs.declared.step.Kind.{Kind}
 use Rattle.context.specs.declared.step.Kind.the-variants.{FullHeader, CompressedUdp, CompressedRtp}
 use Rattle.context.specs.declared.step.Step.{Step}
 
 abbrev pub sizeBy : Kind → Header → Step → ℕ
 sizeBy FullHeader h a = headerSize h
-sizeBy CompressedUdp h a = cuSize (not (a .context .blank)) (a .parts)
-sizeBy CompressedRtp h a = crSize (not (a .context .blank)) (a .parts)
+sizeBy CompressedUdp h a = cuSize (checksumSent (a .context)) (a .parts)
+sizeBy CompressedRtp h a = crSize (checksumSent (a .context)) (a .parts)
 
 unfoldable pub linkSize : Header → Step → ℕ
 linkSize h a = sizeBy (a .kind) h a

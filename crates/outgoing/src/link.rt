@@ -2,8 +2,10 @@ ghost use mathlib.Core.Path.{_≡_};
 ghost use Prim.Native.Nat.{_≤_};
 ghost use lib.ListN.{length};
 ghost use Rattle.bytes.specs.Put.{Wrote};
-ghost use Rattle.outgoing.specs.Outgoing.{kindNumber, linkBytes};
+ghost use Rattle.context.specs.Compressor.{kindNumber};
+ghost use Rattle.outgoing.specs.Outgoing.{linkBytes};
 ghost use Rattle.outgoing.specs.Size.{linkSize, Writable};
+use compress::send::sends_checksum;
 use context::step::Kind;
 use context::step::Step;
 use links_write::cr::cr_size;
@@ -30,7 +32,8 @@ pub fn link_size(h: Header, a: Step) -> usize
     requires { ⌜ Writable h a ⌝ }
     ensures { λ r. ⌜ (r ≡ linkSize h a) × (r ≤ 100) ⌝ }
 {
-    let carried = !a.context.blank;
+    let after = a.context;
+    let carried = sends_checksum(after);
     let parts = a.parts;
     let k = a.kind;
     match k {
@@ -45,7 +48,8 @@ pub fn put_link(out: &mut [u8], i: u8, total: u16, h: Header, a: Step) -> usize
     requires { ⌜ Writable h a × (linkSize h a ≤ length (now out)) ⌝ }
     ensures { λ r. ⌜ Wrote (now (out .entry)) (now (out .exit)) 0 r (linkBytes i total h a) ⌝ }
 {
-    let carried = !a.context.blank;
+    let after = a.context;
+    let carried = sends_checksum(after);
     let parts = a.parts;
     let link = a.link;
     let k = a.kind;

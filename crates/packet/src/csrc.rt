@@ -6,7 +6,13 @@ ghost use Rattle.packet.specs.Csrc.{same, sameList, noList};
 // Words past the count are 0, so that two lists are equal exactly where count and all fifteen words are.
 pub struct Csrc {
     pub count: u8,
-    pub words: [u32; 15],
+    pub words: [u32; Csrc::PLACES],
+}
+
+impl Csrc {
+    pub const PLACES: usize = 15;
+
+    pub const MAX_COUNT: u8 = 15;
 }
 
 // The list with nothing in it.
@@ -15,16 +21,16 @@ pub fn no_list() -> Csrc
 {
     Csrc {
         count: 0,
-        words: [0; 15],
+        words: [0; Csrc::PLACES],
     }
 }
 
 // Whether two arrays of fifteen words are equal. (The language compares no arrays.)
-fn same_words(a: [u32; 15], b: [u32; 15]) -> bool
+fn same_words(a: [u32; Csrc::PLACES], b: [u32; Csrc::PLACES]) -> bool
     ensures { λ r. ⌜ r ≡ same a b ⌝ }
 {
     let mut ok = true;
-    for i in 0..15 {
+    for i in 0..Csrc::PLACES {
         ok = ok & (a[i] == b[i]);
     }
     ok

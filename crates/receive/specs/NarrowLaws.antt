@@ -8,16 +8,15 @@ use Rattle.packet.specs.declared.header.RtpHeader.{RtpHeader}
 use Rattle.packet.specs.declared.parts.Parts.{Parts}
 use Rattle.headers.specs.Range.{Narrow}
 use Rattle.links.specs.Range as links
-use Rattle.context.specs.Field.{gap}
 use Rattle.context.specs.Sound.{soundDecompressor}
-use Rattle.context.specs.Decompressor.{outcomeOf, advanced, advancedWhole, settled, applied, appliedWhole, rebuilt}
-use Rattle.context.proofs.Gap.{outcome-live}
+use Rattle.context.specs.Decompressor.{gapVerdict, gapOf, advanced, advancedWhole, settled, applied, appliedWhole, rebuilt}
+use Rattle.packet.specs.RefusalLaws.{refused-accepted}
 use Rattle.context.proofs.SoundFacts.{soundList-count}
 use Rattle.context.proofs.DecompressorSound.{soundDecompressor-bounds, sound-applied, sound-appliedWhole}
 use Rattle.context.specs.declared.decompressor.Status.the-variants.{Live}
 use Rattle.context.specs.declared.decompressor.DecompressorContext.{DecompressorContext}
-use Rattle.context.specs.declared.decompressor.Outcome.{Outcome}
-use Rattle.context.specs.declared.decompressor.Outcome.the-variants.{Accepted, Refused}
+use Rattle.packet.specs.declared.refusal.Verdict.{Verdict}
+use Rattle.packet.specs.declared.refusal.Verdict.the-variants.{Accepted, Refused}
 use Rattle.decompressor.specs.RangeLaws.{parts-sound, whole-sound}
 
 ---- rebuilt
@@ -30,26 +29,27 @@ rebuilt-narrow c sent u s =
 
 ---- applied, appliedWhole: where they accept, the context is live
 
-settled-live : (o : Outcome) (c next : DecompressorContext) → (o ≡ Accepted → next .status ≡ Live) → settled o c next .outcome ≡ Accepted → settled o c next .context .status ≡ Live
+settled-live : (o : Verdict) (g : ℕ) (c next : DecompressorContext) → next .status ≡ Live → settled o g c next .verdict ≡ Accepted
+    → settled o g c next .context .status ≡ Live
 unfolding settled
-settled-live Accepted c next f e = f refl
-settled-live (Refused r) c next f e = let z : _≡_ {A = ℕ} 0 1 = cc in absurd (omega arith)
+settled-live Accepted g c next f e = f
+settled-live (Refused r) g c next f e = absurd (refused-accepted r e)
 
-module _ (n q : ℕ) (c : DecompressorContext) (p : Parts) where
-  applied-live : applied n q c p .outcome ≡ Accepted → applied n q c p .context .status ≡ Live
+module _ (n q : ℕ) (c : DecompressorContext) (p : Parts) (live : c .status ≡ Live) where
+  applied-live : applied n q c p .verdict ≡ Accepted → applied n q c p .context .status ≡ Live
   unfolding applied advanced
-  applied-live e = settled-live (outcomeOf n q c) c (advanced (gap (c .link .sequence) q) q c p) (outcome-live n q c) e
+  applied-live e = settled-live (gapVerdict n (gapOf q c)) (gapOf q c) c (advanced (gapOf q c) q c p) live e
 
-  whole-live : (w : RtpHeader) → appliedWhole n q c p w .outcome ≡ Accepted → appliedWhole n q c p w .context .status ≡ Live
+  whole-live : (w : RtpHeader) → appliedWhole n q c p w .verdict ≡ Accepted → appliedWhole n q c p w .context .status ≡ Live
   unfolding appliedWhole advancedWhole
-  whole-live w e = settled-live (outcomeOf n q c) c (advancedWhole (gap (c .link .sequence) q) q c p w) (outcome-live n q c) e
+  whole-live w e = settled-live (gapVerdict n (gapOf q c)) (gapOf q c) c (advancedWhole (gapOf q c) q c p w) live e
 
   module _ (sent : ℕ) (small : q < 16) (s : soundDecompressor c ≡ true) (parts : links.PartsSound p) where
-    pub applied-narrow : applied n q c p .outcome ≡ Accepted → Narrow (rebuilt (applied n q c p .context) sent)
-    applied-narrow e = rebuilt-narrow (applied n q c p .context) sent (applied-live e) (sound-applied n q c p (omega arith) (parts-sound p parts) s)
+    pub applied-narrow : applied n q c p .verdict ≡ Accepted → Narrow (rebuilt (applied n q c p .context) sent)
+    applied-narrow e = rebuilt-narrow (applied n q c p .context) sent (applied-live e) (sound-applied n q c p (omega arith) (parts-sound p parts) live s)
 
-    pub whole-narrow : (w : RtpHeader) → links.HeaderSound w → appliedWhole n q c p w .outcome ≡ Accepted
+    pub whole-narrow : (w : RtpHeader) → links.HeaderSound w → appliedWhole n q c p w .verdict ≡ Accepted
         → Narrow (rebuilt (appliedWhole n q c p w .context) sent)
     whole-narrow w h e =
         rebuilt-narrow (appliedWhole n q c p w .context) sent (whole-live w e)
-        (sound-appliedWhole n q c p w (omega arith) (parts-sound p parts) (whole-sound w h) s)
+        (sound-appliedWhole n q c p (omega arith) (parts-sound p parts) live s w (whole-sound w h))

@@ -6,8 +6,11 @@ use mathlib.Core.Bool.{true}
 use mathlib.Core.List.{List}
 use lib.ListN.{length}
 use Rattle.links.specs.declared.head.Head.{Head}
+use Rattle.packet.specs.declared.refusal.Refusal.the-variants.{NotLive}
+use Rattle.context.specs.Decompressor.{broke}
 use Rattle.context.specs.Sound.{soundDecompressor}
 use Rattle.context.specs.declared.decompressor.DecompressorContext.{DecompressorContext}
+use Rattle.decompressor.specs.declared.answer.Outcome.the-variants.{Refused}
 use Rattle.decompressor.specs.declared.table.Table.{Table}
 use Rattle.receive.specs.declared.settle.Taken.{Taken}
 use Rattle.decompressor.specs.Answer.{Result, numberOf, lengthOf}
@@ -21,8 +24,12 @@ placed x t i output = record { number = numberOf (x .outcome); length = lengthOf
 pub record Takes (n : ℕ) (c : DecompressorContext) (x : Taken) (output : List ℕ) (f : Table → ℕ → Result) : Type 0 where
   pub anywhere : (t : Table) (i : ℕ) → t .settings .repeats ≡ n → contextAt t i ≡ c → placed x t i output ≡ f t i
 
+-- rule 3.1: a context that is not live is left broken
+abbrev pub takenNotLive : DecompressorContext → Taken
+takenNotLive c = record { outcome = Refused NotLive; context = broke c }
+
 -- what is known once the flag byte h of the bytes s was read: n repeats, and the context c of a sound table
-pub record Ready (n : ℕ) (c : DecompressorContext) (h : Head) (s : List ℕ) : Type 0 where
+pub record HeadRead (n : ℕ) (c : DecompressorContext) (h : Head) (s : List ℕ) : Type 0 where
   pub few : n ≤ 14
   pub sound : soundDecompressor c ≡ true
   pub link : h .flags .low < 16

@@ -18,10 +18,10 @@ use Rattle.links.specs.HeadLaws.{headOf-low, headOf-within}
 use Rattle.links.specs.Cu.{cuOf}
 use Rattle.links.specs.Cr.{crOf}
 use Rattle.links.specs.Whole.{wholeOf}
-use Rattle.context.specs.Refusal as refusal
-use Rattle.context.specs.declared.refusal.Refusal.{Refusal}
-use Rattle.context.specs.declared.refusal.Refusal.the-variants.{NotLive, TooLong, NoRoom}
-use Rattle.context.specs.Decompressor.{broke, rebuilt, applied, appliedWhole}
+use Rattle.packet.specs.Refusal as refusal
+use Rattle.packet.specs.declared.refusal.Refusal.{Refusal}
+use Rattle.packet.specs.declared.refusal.Refusal.the-variants.{NotLive, TooLong, NoRoom}
+use Rattle.context.specs.Decompressor.{broke, rebuilt, applied, appliedWhole, checksumRead}
 use Rattle.context.specs.declared.decompressor.Status.{Status}
 use Rattle.context.specs.declared.decompressor.Status.the-variants.{Empty, Live, Broken}
 use Rattle.context.specs.declared.decompressor.DecompressorContext.{DecompressorContext}
@@ -30,9 +30,11 @@ use Rattle.decompressor.specs.declared.table.Table.{Table}
 use Rattle.receive.specs.declared.settle.Taken.{Taken}
 use Rattle.decompressor.specs.Answer.{Result, accepted, refused, delivered}
 use Rattle.decompressor.specs.Table.{noContext, contextAt, withContext}
-use Rattle.decompressor.specs.Receive.{packetOf, rebuildTo, settleRead, receiveParts, receiveWhole, oldForm, receiveUdp, receiveRtp, receiveOn}
+use Rattle.decompressor.specs.Receive.{packetOf, rebuildTo, settleRead, receiveParts, receiveWhole, receiveOld, receiveUdp, receiveRtp, receiveOn}
+use Rattle.decompressor.specs.declared.old.OldForm.{OldForm}
+use Rattle.decompressor.specs.declared.old.OldForm.the-variants as old
 use Rattle.decompressor.specs.TableLaws.{Sound, sound-repeats, sound-contextAt}
-use Rattle.receive.specs.Taken.{placed, Takes, Ready}
+use Rattle.receive.specs.Taken.{placed, Takes, HeadRead}
 
 ---- withContext
 
@@ -94,10 +96,10 @@ module _ (n : ℕ) (before c : DecompressorContext) (sent : ℕ) (rest output : 
     rebuildTo-accepted after r w =
         made-accepted n before c (packetOf (rebuilt c sent) rest) output (headerSize (rebuilt c sent) + length rest) (omega arith) size after (rw (← f) r) f w
 
----- Ready
+---- HeadRead
 
-pub ready-head : (t : Table) (i : ℕ) (s : List ℕ) → Sound t → 1 ≤ length s → length s ≤ 1500 → Ready (t .settings .repeats) (contextAt t i) (headOf s) s
-ready-head t i s sound some few = record {
+pub headRead : (t : Table) (i : ℕ) (s : List ℕ) → Sound t → 1 ≤ length s → length s ≤ 1500 → HeadRead (t .settings .repeats) (contextAt t i) (headOf s) s
+headRead t i s sound some few = record {
   few = sound-repeats t sound;
   sound = sound-contextAt t i sound;
   link = headOf-low s;
@@ -112,7 +114,7 @@ notLive Empty = true
 notLive Live = false
 notLive Broken = true
 
----- receiveParts, oldForm: the repeats and the context are those of the table
+---- receiveParts, receiveOld: the repeats and the context are those of the table
 
 module _ (n : ℕ) (c : DecompressorContext) (x : Taken) (after s output : List ℕ) where
   pub takes-parts : (q : ℕ) (r : ReadParts)
@@ -130,65 +132,71 @@ module _ (n : ℕ) (c : DecompressorContext) (x : Taken) (after s output : List 
         ∙ sym (λ j. settleRead (r .place) (appliedWhole (e j) q (f j) (r .parts) (r .header)) t i (r .parts .checksum) s output);
   }
 
-  pub takes-whole : (h : Head) (r : ReadWhole) → r ≡ wholeOf s (h .place) (h .flags) (c .carried)
+  pub takes-whole : (h : Head) (r : ReadWhole) → r ≡ wholeOf s (h .place) (h .flags) (checksumRead c)
       → ((m : ℕ) → Takes m c x after (λ t i. settleRead (r .place) (appliedWhole n (h .flags .low) c (r .parts) (r .header)) t i (r .parts .checksum) s output))
-      → Takes n c x after (λ t i. oldForm t i h s output)
-  unfolding oldForm
+      → Takes n c x after (λ t i. receiveOld old.Taken t i h s output)
+  unfolding receiveOld
   takes-whole h r w k = record {
     anywhere = λ t i e f. takes-wholeParts (h .flags .low) r k .anywhere t i e f
         ∙ ap (λ (y : ReadWhole). receiveWhole y t i (h .flags .low) s output) w
-        ∙ sym (λ j. receiveWhole (wholeOf s (h .place) (h .flags) (f j .carried)) t i (h .flags .low) s output);
+        ∙ sym (λ j. receiveWhole (wholeOf s (h .place) (h .flags) (checksumRead (f j))) t i (h .flags .low) s output);
   }
 
-  module _ (h : Head) where
-    pub takes-udp : h .flags .a ≡ true → Takes n c x after (λ t i. receiveParts (cuOf s (h .place) (h .flags) (c .carried)) t i (h .flags .low) s output)
-        → Takes n c x after (λ t i. receiveUdp oldForm t i h s output)
+  pub takes-rtp : (h : Head) → Takes n c x after (λ t i. receiveParts (crOf s (h .place) (h .flags) (checksumRead c)) t i (h .flags .low) s output)
+      → Takes n c x after (λ t i. receiveRtp t i h s output)
+  takes-rtp h k = record {
+    anywhere = λ t i e f. k .anywhere t i e f ∙ sym (λ j. receiveParts (crOf s (h .place) (h .flags) (checksumRead (f j))) t i (h .flags .low) s output);
+  }
+
+  -- there is one way to take a CU without F
+  takes-form : (form : OldForm) (h : Head) → Takes n c x after (λ t i. receiveOld old.Taken t i h s output)
+      → Takes n c x after (λ t i. receiveOld form t i h s output)
+  takes-form old.Taken h k = k
+
+  module _ (form : OldForm) (h : Head) where
+    pub takes-udp : h .flags .a ≡ true → Takes n c x after (λ t i. receiveParts (cuOf s (h .place) (h .flags) (checksumRead c)) t i (h .flags .low) s output)
+        → Takes n c x after (λ t i. receiveUdp form t i h s output)
     takes-udp g k = record {
       anywhere = λ t i e f. k .anywhere t i e f
-          ∙ sym (λ j. cond (g j) (receiveParts (cuOf s (h .place) (h .flags) (f j .carried)) t i (h .flags .low) s output) (oldForm t i h s output));
+          ∙ sym (λ j. cond (g j) (receiveParts (cuOf s (h .place) (h .flags) (checksumRead (f j))) t i (h .flags .low) s output) (receiveOld form t i h s output));
     }
 
-    pub takes-old : h .flags .a ≡ false → Takes n c x after (λ t i. oldForm t i h s output) → Takes n c x after (λ t i. receiveUdp oldForm t i h s output)
+    pub takes-old : h .flags .a ≡ false → Takes n c x after (λ t i. receiveOld old.Taken t i h s output)
+        → Takes n c x after (λ t i. receiveUdp form t i h s output)
     takes-old g k = record {
-      anywhere = λ t i e f. k .anywhere t i e f
-          ∙ sym (λ j. cond (g j) (receiveParts (cuOf s (h .place) (h .flags) (contextAt t i .carried)) t i (h .flags .low) s output) (oldForm t i h s output));
-    }
-
-    pub takes-rtp : Takes n c x after (λ t i. receiveParts (crOf s (h .place) (h .flags) (c .carried)) t i (h .flags .low) s output)
-        → Takes n c x after (λ t i. receiveRtp oldForm t i h s output)
-    takes-rtp k = record {
-      anywhere = λ t i e f. k .anywhere t i e f ∙ sym (λ j. receiveParts (crOf s (h .place) (h .flags) (f j .carried)) t i (h .flags .low) s output);
+      anywhere = λ t i e f. takes-form form h k .anywhere t i e f
+          ∙ sym (λ j. cond (g j) (receiveParts (cuOf s (h .place) (h .flags) (checksumRead (contextAt t i))) t i (h .flags .low) s output) (receiveOld form t i h s output));
     }
 
     ---- receiveOn: by the context's status, then by type
 
     module _ (kind : ℕ) where
       on-live : c .status ≡ Live → (t : Table) (i : ℕ)
-          → receiveOn oldForm (c .status) kind t i h s output ≡ cond (eqb kind 2) (receiveUdp oldForm t i h s output) (receiveRtp oldForm t i h s output)
-      on-live g t i = ap (λ (u : Status). receiveOn oldForm u kind t i h s output) g
+          → receiveOn form (c .status) kind t i h s output ≡ cond (eqb kind 2) (receiveUdp form t i h s output) (receiveRtp t i h s output)
+      on-live g t i = ap (λ (u : Status). receiveOn form u kind t i h s output) g
 
-      pub takes-liveUdp : c .status ≡ Live → eqb kind 2 ≡ true → Takes n c x after (λ t i. receiveUdp oldForm t i h s output)
-          → Takes n c x after (λ t i. receiveOn oldForm (c .status) kind t i h s output)
+      pub takes-liveUdp : c .status ≡ Live → eqb kind 2 ≡ true → Takes n c x after (λ t i. receiveUdp form t i h s output)
+          → Takes n c x after (λ t i. receiveOn form (c .status) kind t i h s output)
       takes-liveUdp g b k = record {
         anywhere = λ t i e f. k .anywhere t i e f
-            ∙ sym (on-live g t i ∙ ap (λ (y : Bool). cond y (receiveUdp oldForm t i h s output) (receiveRtp oldForm t i h s output)) b);
+            ∙ sym (on-live g t i ∙ ap (λ (y : Bool). cond y (receiveUdp form t i h s output) (receiveRtp t i h s output)) b);
       }
 
-      pub takes-liveRtp : c .status ≡ Live → eqb kind 2 ≡ false → Takes n c x after (λ t i. receiveRtp oldForm t i h s output)
-          → Takes n c x after (λ t i. receiveOn oldForm (c .status) kind t i h s output)
+      pub takes-liveRtp : c .status ≡ Live → eqb kind 2 ≡ false → Takes n c x after (λ t i. receiveRtp t i h s output)
+          → Takes n c x after (λ t i. receiveOn form (c .status) kind t i h s output)
       takes-liveRtp g b k = record {
         anywhere = λ t i e f. k .anywhere t i e f
-            ∙ sym (on-live g t i ∙ ap (λ (y : Bool). cond y (receiveUdp oldForm t i h s output) (receiveRtp oldForm t i h s output)) b);
+            ∙ sym (on-live g t i ∙ ap (λ (y : Bool). cond y (receiveUdp form t i h s output) (receiveRtp t i h s output)) b);
       }
 
 -- a context that is not live is left broken
-module _ (n kind : ℕ) (c : DecompressorContext) (h : Head) (s output : List ℕ) where
+module _ (form : OldForm) (n kind : ℕ) (c : DecompressorContext) (h : Head) (s output : List ℕ) where
   notLive-by : (u : Status) → notLive u ≡ true → (t : Table) (i : ℕ)
-      → receiveOn oldForm u kind t i h s output ≡ refused (withContext t i (broke (contextAt t i))) 8 output
+      → receiveOn form u kind t i h s output ≡ refused (withContext t i (broke (contextAt t i))) 8 output
   notLive-by Empty g t i = refl
   notLive-by Broken g t i = refl
   notLive-by Live g t i = absurd (false≢true g)
 
   pub takes-notLive : notLive (c .status) ≡ true
-      → Takes n c (record { outcome = Refused NotLive; context = broke c }) output (λ t i. receiveOn oldForm (c .status) kind t i h s output)
+      → Takes n c (record { outcome = Refused NotLive; context = broke c }) output (λ t i. receiveOn form (c .status) kind t i h s output)
   takes-notLive g = record { anywhere = λ t i e f. sym (notLive-by (c .status) g t i ∙ (λ j. refused (withContext t i (broke (f j))) 8 output)) }

@@ -6,26 +6,30 @@ ghost use Rattle.links.specs.Range.{PartsSound};
 ghost use Rattle.context.specs.Sound.{soundDecompressor};
 ghost use Rattle.decompressor.specs.Answer.{said};
 ghost use Rattle.decompressor.specs.TableLaws.{Sound};
-ghost use Rattle.decompressor.specs.Receive.{receiveParts, oldForm, receiveUdp, receiveRtp, receiveOn, receiveCompressed};
-ghost use Rattle.receive.specs.Taken.{Takes, Ready};
+ghost use Rattle.context.specs.declared.decompressor.Status.the-variants.{Live};
+ghost use Rattle.decompressor.specs.declared.old.OldForm.the-variants as oldform;
+ghost use Rattle.decompressor.specs.Receive.{receiveParts, receiveOld, receiveUdp, receiveRtp, receiveOn, receiveCompressed};
+ghost use Rattle.receive.specs.Taken.{Takes, takenNotLive, HeadRead};
 use crate::settle::Taken;
 use crate::settle::settle_read;
 use context::decompressor::DecompressorContext;
 use context::decompressor::Status;
-use context::refusal::Refusal;
 use decompress::apply::apply;
 use decompress::apply::apply_whole;
 use decompress::apply::break_context;
+use decompress::header::reads_checksum;
 use decompressor::answer::Answer;
 use decompressor::answer::Outcome;
+use decompressor::old::OldForm;
 use decompressor::table::Table;
-use fields::place::is_good;
 use links::head::Head;
 use links::head::ReadParts;
 use links_read::cr::read_cr;
 use links_read::cu::read_cu;
 use links_read::head::read_head;
 use links_read::whole::read_cu_whole;
+use packet::refusal::Refusal;
+use packet::refusal::is_accepted;
 
 // The parts of a CR, or of a CU with F, that has the link sequence q.
 fn receive_parts(
@@ -36,7 +40,7 @@ fn receive_parts(
     s: &[u8],
     out: &mut [u8],
 ) -> Taken
-    requires { ⌜ (n ≤ 14) × (q < 16) × (soundDecompressor c ≡ true) × PartsSound (x .parts) × (x .place .cursor .at ≤ length (now s)) × (length (now s) ≤ 1500) ⌝ }
+    requires { ⌜ (n ≤ 14) × (q < 16) × (c .status ≡ Live) × (soundDecompressor c ≡ true) × PartsSound (x .parts) × (x .place .cursor .at ≤ length (now s)) × (length (now s) ≤ 1500) ⌝ }
     ensures { λ r. ⌜ Takes n c r (now (out .exit)) (λ t i. receiveParts x t i q (now (s .entry)) (now (out .entry))) ⌝ }
 {
     let p = x.parts;
@@ -45,13 +49,14 @@ fn receive_parts(
     settle_read(c, place, a, p.checksum, s, out)
 }
 
-// A CU without F. It is a function of its own, since how this form is taken may be changed.
-pub fn receive_whole(n: u8, c: DecompressorContext, h: Head, s: &[u8], out: &mut [u8]) -> Taken
-    requires { ⌜ Ready n c h (now s) ⌝ }
-    ensures { λ r. ⌜ Takes n c r (now (out .exit)) (λ t i. oldForm t i h (now (s .entry)) (now (out .entry))) ⌝ }
+// A CU without F, taken whole.
+fn receive_whole(n: u8, c: DecompressorContext, h: Head, s: &[u8], out: &mut [u8]) -> Taken
+    requires { ⌜ HeadRead n c h (now s) × (c .status ≡ Live) ⌝ }
+    ensures { λ r. ⌜ Takes n c r (now (out .exit)) (λ t i. receiveOld oldform.Taken t i h (now (s .entry)) (now (out .entry))) ⌝ }
 {
     let f = h.flags;
-    let x = read_cu_whole(s, h.place, f, c.carried);
+    let carried = reads_checksum(c);
+    let x = read_cu_whole(s, h.place, f, carried);
     let p = x.parts;
     let w = x.header;
     let place = x.place;
@@ -59,55 +64,78 @@ pub fn receive_whole(n: u8, c: DecompressorContext, h: Head, s: &[u8], out: &mut
     settle_read(c, place, a, p.checksum, s, out)
 }
 
-fn receive_udp(n: u8, c: DecompressorContext, h: Head, s: &[u8], out: &mut [u8]) -> Taken
-    requires { ⌜ Ready n c h (now s) ⌝ }
-    ensures { λ r. ⌜ Takes n c r (now (out .exit)) (λ t i. receiveUdp oldForm t i h (now (s .entry)) (now (out .entry))) ⌝ }
+fn receive_udp(
+    old: OldForm,
+    n: u8,
+    c: DecompressorContext,
+    h: Head,
+    s: &[u8],
+    out: &mut [u8],
+) -> Taken
+    requires { ⌜ HeadRead n c h (now s) × (c .status ≡ Live) ⌝ }
+    ensures { λ r. ⌜ Takes n c r (now (out .exit)) (λ t i. receiveUdp old t i h (now (s .entry)) (now (out .entry))) ⌝ }
 {
     let f = h.flags;
     if f.a {
-        let x = read_cu(s, h.place, f, c.carried);
+        let carried = reads_checksum(c);
+        let x = read_cu(s, h.place, f, carried);
         return receive_parts(n, f.low, c, x, s, out);
     }
-    receive_whole(n, c, h, s, out)
+    match old {
+        OldForm::Taken => receive_whole(n, c, h, s, out),
+    }
 }
 
 fn receive_rtp(n: u8, c: DecompressorContext, h: Head, s: &[u8], out: &mut [u8]) -> Taken
-    requires { ⌜ Ready n c h (now s) ⌝ }
-    ensures { λ r. ⌜ Takes n c r (now (out .exit)) (λ t i. receiveRtp oldForm t i h (now (s .entry)) (now (out .entry))) ⌝ }
+    requires { ⌜ HeadRead n c h (now s) × (c .status ≡ Live) ⌝ }
+    ensures { λ r. ⌜ Takes n c r (now (out .exit)) (λ t i. receiveRtp t i h (now (s .entry)) (now (out .entry))) ⌝ }
 {
     let f = h.flags;
-    let x = read_cr(s, h.place, f, c.carried);
+    let carried = reads_checksum(c);
+    let x = read_cr(s, h.place, f, carried);
     receive_parts(n, f.low, c, x, s, out)
 }
 
+// A context that is not live takes neither a CU nor a CR, and is left broken.
+fn refuse_not_live(c: DecompressorContext) -> Taken
+    ensures { λ r. ⌜ r ≡ takenNotLive c ⌝ }
+{
+    Taken {
+        outcome: Outcome::Refused(Refusal::NotLive),
+        context: break_context(c),
+    }
+}
+
 // The status is taken apart before any field is read: only a live context has a link sequence to count from.
-fn receive_on(kind: u32, n: u8, c: DecompressorContext, h: Head, s: &[u8], out: &mut [u8]) -> Taken
-    requires { ⌜ Ready n c h (now s) ⌝ }
-    ensures { λ r. ⌜ Takes n c r (now (out .exit)) (λ t i. receiveOn oldForm (c .status) kind t i h (now (s .entry)) (now (out .entry))) ⌝ }
+fn receive_on(
+    old: OldForm,
+    kind: u32,
+    n: u8,
+    c: DecompressorContext,
+    h: Head,
+    s: &[u8],
+    out: &mut [u8],
+) -> Taken
+    requires { ⌜ HeadRead n c h (now s) ⌝ }
+    ensures { λ r. ⌜ Takes n c r (now (out .exit)) (λ t i. receiveOn old (c .status) kind t i h (now (s .entry)) (now (out .entry))) ⌝ }
 {
     let status = c.status;
     match status {
-        Status::Empty => Taken {
-            outcome: Outcome::Refused(Refusal::NotLive),
-            context: break_context(c),
-        },
+        Status::Empty => refuse_not_live(c),
         Status::Live => {
             if kind == 2 {
-                return receive_udp(n, c, h, s, out);
+                return receive_udp(old, n, c, h, s, out);
             }
             receive_rtp(n, c, h, s, out)
         }
-        Status::Broken => Taken {
-            outcome: Outcome::Refused(Refusal::NotLive),
-            context: break_context(c),
-        },
+        Status::Broken => refuse_not_live(c),
     }
 }
 
 // A CU or CR: its context is copied out once and stored back once.
-pub fn receive_compressed(kind: u32, t: Table, s: &[u8], out: &mut [u8]) -> Answer
+pub fn receive_compressed(old: OldForm, kind: u32, t: Table, s: &[u8], out: &mut [u8]) -> Answer
     requires { ⌜ Sound t × (1 ≤ length (now s)) × (length (now s) ≤ 1500) ⌝ }
-    ensures { λ r. ⌜ said r (now (out .exit)) ≡ receiveCompressed oldForm kind t (now (s .entry)) (now (out .entry)) ⌝ }
+    ensures { λ r. ⌜ said r (now (out .exit)) ≡ receiveCompressed old kind t (now (s .entry)) (now (out .entry)) ⌝ }
 {
     let settings = t.settings;
     let number = s[0];
@@ -119,8 +147,8 @@ pub fn receive_compressed(kind: u32, t: Table, s: &[u8], out: &mut [u8]) -> Answ
     }
     let h = read_head(s);
     let place = h.place;
-    let o = place.outcome;
-    if !is_good(o) {
+    let found = place.verdict;
+    if !is_accepted(found) {
         return Answer {
             outcome: Outcome::Refused(Refusal::Cut),
             table: t,
@@ -128,7 +156,7 @@ pub fn receive_compressed(kind: u32, t: Table, s: &[u8], out: &mut [u8]) -> Answ
     }
     let i = number as usize;
     let c = t.contexts[i];
-    let x = receive_on(kind, settings.repeats, c, h, s, out);
+    let x = receive_on(old, kind, settings.repeats, c, h, s, out);
     let outcome = x.outcome;
     let after = x.context;
     let mut next = t;

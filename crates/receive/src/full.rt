@@ -2,24 +2,24 @@ ghost use mathlib.Core.Path.{_≡_};
 ghost use Prim.Native.Nat.{_≤_};
 ghost use lib.ListN.{length, drop};
 ghost use Rattle.links.specs.Fh.{fhJudged, fhOf};
-ghost use Rattle.links.specs.declared.judgement.Judgement.the-variants.{Good};
+ghost use Rattle.packet.specs.declared.refusal.Verdict.the-variants.{Accepted};
 ghost use Rattle.decompressor.specs.Answer.{said, delivered};
 ghost use Rattle.decompressor.specs.TableLaws.{Sound};
 ghost use Rattle.decompressor.specs.Receive.{packetOf, fullTable, receiveFull};
 use crate::output::put_packet;
 use context::kept::Link;
-use context::refusal::Refusal;
 use decompress::full::fill;
 use decompressor::answer::Answer;
 use decompressor::answer::Outcome;
 use decompressor::table::Table;
-use links::judgement::Judgement;
+use packet::refusal::Refusal;
+use packet::refusal::Verdict;
 use refresh::fh::judge_fh;
 use refresh::fh::read_fh;
 
 // A full header that was judged good. The packet is as long as it, since only what stands in two fields differs.
 fn accept_full(t: Table, s: &[u8], out: &mut [u8]) -> Answer
-    requires { ⌜ Sound t × (fhJudged (t .settings .contexts) (now s) ≡ Good) × (length (now s) ≤ 1500) ⌝ }
+    requires { ⌜ Sound t × (fhJudged (t .settings .contexts) (now s) ≡ Accepted) × (length (now s) ≤ 1500) ⌝ }
     ensures { λ r. ⌜ said r (now (out .exit)) ≡ delivered t (fullTable t (fhOf (now (s .entry)))) (packetOf (fhOf (now (s .entry)) .header) (drop (fhOf (now (s .entry)) .start) (now (s .entry)))) (now (out .entry)) ⌝ }
 {
     let size = s.len();
@@ -53,17 +53,9 @@ pub fn receive_full(t: Table, s: &[u8], out: &mut [u8]) -> Answer
 {
     let settings = t.settings;
     match judge_fh(settings.contexts, s) {
-        Judgement::Good => { accept_full(t, s, out) }
-        Judgement::Cut => Answer {
-            outcome: Outcome::Refused(Refusal::Cut),
-            table: t,
-        },
-        Judgement::Forbidden => Answer {
-            outcome: Outcome::Refused(Refusal::Forbidden),
-            table: t,
-        },
-        Judgement::NoSuchContext => Answer {
-            outcome: Outcome::Refused(Refusal::NoSuchContext),
+        Verdict::Accepted => { accept_full(t, s, out) }
+        Verdict::Refused(why) => Answer {
+            outcome: Outcome::Refused(why),
             table: t,
         },
     }

@@ -14,15 +14,17 @@ ghost use Prim.Native.Nat.{_≤_};
 ghost use lib.ListN.{length};
 ghost use Rattle.decompressor.specs.Answer.{said};
 ghost use Rattle.decompressor.specs.TableLaws.{Sound};
-ghost use Rattle.decompressor.specs.Receive.{receivePlain, oldForm, receiveKind, receiveOf};
+ghost use Rattle.decompressor.specs.Receive.{receivePlain, receiveKind, receiveOf};
 use crate::compressed::receive_compressed;
 use crate::full::receive_full;
 use bytes::put::put_all;
-use context::refusal::Refusal;
 use decompressor::answer::Answer;
 use decompressor::answer::Outcome;
+use decompressor::old::OldForm;
 use decompressor::table::Table;
 use decompressor::table::sound;
+use packet::refusal::Refusal;
+use settings::Settings;
 
 // A plain packet is given out as it came.
 fn receive_plain(t: Table, s: &[u8], out: &mut [u8]) -> Answer
@@ -42,9 +44,9 @@ fn receive_plain(t: Table, s: &[u8], out: &mut [u8]) -> Answer
     }
 }
 
-fn receive_kind(kind: u32, t: Table, s: &[u8], out: &mut [u8]) -> Answer
+fn receive_kind(old: OldForm, kind: u32, t: Table, s: &[u8], out: &mut [u8]) -> Answer
     requires { ⌜ Sound t × (1 ≤ length (now s)) × (length (now s) ≤ 1500) ⌝ }
-    ensures { λ r. ⌜ said r (now (out .exit)) ≡ receiveKind oldForm kind t (now (s .entry)) (now (out .entry)) ⌝ }
+    ensures { λ r. ⌜ said r (now (out .exit)) ≡ receiveKind old kind t (now (s .entry)) (now (out .entry)) ⌝ }
 {
     if kind == 0 {
         return receive_plain(t, s, out);
@@ -52,7 +54,7 @@ fn receive_kind(kind: u32, t: Table, s: &[u8], out: &mut [u8]) -> Answer
     if kind == 1 {
         return receive_full(t, s, out);
     }
-    receive_compressed(kind, t, s, out)
+    receive_compressed(old, kind, t, s, out)
 }
 
 // An arrival: a link packet of any type, any bytes, any table and any output.
@@ -72,11 +74,11 @@ pub fn receive(t: Table, kind: u32, s: &[u8], out: &mut [u8]) -> Answer
         };
     }
     let size = s.len();
-    if !((1 <= size) & (size <= 1500)) {
+    if !((1 <= size) & (size <= Settings::LONGEST)) {
         return Answer {
             outcome: Outcome::Refused(Refusal::BadLength),
             table: t,
         };
     }
-    receive_kind(kind, t, s, out)
+    receive_kind(OldForm::Taken, kind, t, s, out)
 }

@@ -3,17 +3,19 @@ ghost use Prim.Native.Nat.{ℕ, _≤_};
 ghost use lib.ListN.{length};
 ghost use Rattle.headers.specs.Range.{Narrow};
 ghost use Rattle.context.specs.Decompressor.{rebuilt};
-ghost use Rattle.context.specs.declared.decompressor.Outcome.the-variants.{Accepted};
+ghost use Rattle.packet.specs.declared.refusal.Verdict.the-variants.{Accepted};
 ghost use Rattle.decompressor.specs.Receive.{rebuildTo, settle, settleRead};
 ghost use Rattle.receive.specs.Taken.{Takes};
 use crate::output::packet_size;
 use crate::output::put_packet;
 use context::decompressor::Applied;
 use context::decompressor::DecompressorContext;
-use context::refusal::Refusal;
 use decompress::header::rebuild;
 use decompressor::answer::Outcome;
 use fields::place::Place;
+use packet::refusal::Refusal;
+use packet::refusal::Verdict;
+use settings::Settings;
 
 // What became of a link packet on its context, and the context that it leaves: as it was, moved on, or broken.
 //
@@ -36,7 +38,7 @@ pub fn rebuild_to(
 {
     let h = rebuild(c, sent);
     let size = packet_size(h, rest);
-    if 1500 < size {
+    if Settings::LONGEST < size {
         return Taken {
             outcome: Outcome::Refused(Refusal::TooLong),
             context: before,
@@ -63,14 +65,14 @@ pub fn settle(
     rest: &[u8],
     out: &mut [u8],
 ) -> Taken
-    requires { ⌜ (a .outcome ≡ Accepted → Narrow (rebuilt (a .context) sent)) × (length (now rest) ≤ 1500) ⌝ }
+    requires { ⌜ (a .verdict ≡ Accepted → Narrow (rebuilt (a .context) sent)) × (length (now rest) ≤ 1500) ⌝ }
     ensures { λ r. ⌜ ((n : ℕ) → Takes n before r (now (out .exit)) (λ t i. settle a t i sent (now (rest .entry)) (now (out .entry)))) ⌝ }
 {
-    let o = a.outcome;
+    let found = a.verdict;
     let c = a.context;
-    match o {
-        context::decompressor::Outcome::Accepted => { rebuild_to(before, c, sent, rest, out) }
-        context::decompressor::Outcome::Refused(why) => Taken {
+    match found {
+        Verdict::Accepted => { rebuild_to(before, c, sent, rest, out) }
+        Verdict::Refused(why) => Taken {
             outcome: Outcome::Refused(why),
             context: c,
         },
@@ -86,25 +88,17 @@ pub fn settle_read(
     s: &[u8],
     out: &mut [u8],
 ) -> Taken
-    requires { ⌜ (a .outcome ≡ Accepted → Narrow (rebuilt (a .context) sent)) × (p .cursor .at ≤ length (now s)) × (length (now s) ≤ 1500) ⌝ }
+    requires { ⌜ (a .verdict ≡ Accepted → Narrow (rebuilt (a .context) sent)) × (p .cursor .at ≤ length (now s)) × (length (now s) ≤ 1500) ⌝ }
     ensures { λ r. ⌜ ((n : ℕ) → Takes n before r (now (out .exit)) (λ t i. settleRead p a t i sent (now (s .entry)) (now (out .entry)))) ⌝ }
 {
-    let o = p.outcome;
-    match o {
-        fields::place::Outcome::Good => {
+    let found = p.verdict;
+    match found {
+        Verdict::Accepted => {
             let start = p.cursor.at;
             settle(before, a, sent, &s[start..], out)
         }
-        fields::place::Outcome::Cut => Taken {
-            outcome: Outcome::Refused(Refusal::Cut),
-            context: before,
-        },
-        fields::place::Outcome::Forbidden => Taken {
-            outcome: Outcome::Refused(Refusal::Forbidden),
-            context: before,
-        },
-        fields::place::Outcome::Unused => Taken {
-            outcome: Outcome::Refused(Refusal::UnusedCode),
+        Verdict::Refused(why) => Taken {
+            outcome: Outcome::Refused(why),
             context: before,
         },
     }

@@ -9,7 +9,8 @@ use bytes::flags::Flags;
 use bytes::flags::pack;
 use bytes::flags::split;
 use bytes::put::put8;
-use links::judgement::Judgement;
+use packet::refusal::Refusal;
+use packet::refusal::Verdict;
 
 fn index(b: u8) -> usize
     ensures { λ r. ⌜ (r ≡ b) × (r < 256) ⌝ }
@@ -26,58 +27,52 @@ pub fn record_count(s: &[u8]) -> usize
 }
 
 // One record: its context number first, then the bits that 6.6 has as 0. A top bit of 0 is not refused.
-fn judge_record(contexts: u8, s: &[u8], i: usize) -> Judgement
+fn judge_record(contexts: u8, s: &[u8], i: usize) -> Verdict
     requires { ⌜ 2 + 3 * i + 3 ≤ length (now s) ⌝ }
     ensures { λ r. ⌜ r ≡ recordJudged contexts (now (s .entry)) i ⌝ }
 {
     let at = 2 + 3 * i;
     if contexts <= s[at] {
-        return Judgement::NoSuchContext;
+        return Verdict::Refused(Refusal::NoSuchContext);
     }
     let f = split(s[at + 1]);
     if f.b | f.c | f.d | (64 <= s[at + 2]) {
-        return Judgement::Forbidden;
+        return Verdict::Refused(Refusal::Forbidden);
     }
-    Judgement::Good
+    Verdict::Accepted
 }
 
 // n records from the first on.
-fn judge_records(contexts: u8, s: &[u8], n: usize) -> Judgement
+fn judge_records(contexts: u8, s: &[u8], n: usize) -> Verdict
     requires { ⌜ 2 + 3 * n ≤ length (now s) ⌝ }
     ensures { λ r. ⌜ r ≡ recordsJudged contexts (now (s .entry)) 0 n ⌝ }
 {
     let mut i = 0;
     while i < n {
         match judge_record(contexts, s, i) {
-            Judgement::Good => {}
-            Judgement::Cut => {
-                return Judgement::Cut;
-            }
-            Judgement::Forbidden => {
-                return Judgement::Forbidden;
-            }
-            Judgement::NoSuchContext => {
-                return Judgement::NoSuchContext;
+            Verdict::Accepted => {}
+            Verdict::Refused(why) => {
+                return Verdict::Refused(why);
             }
         }
         i += 1;
     }
-    Judgement::Good
+    Verdict::Accepted
 }
 
 // A request of any bytes, judged whole.
-pub fn judge_request(contexts: u8, s: &[u8]) -> Judgement
+pub fn judge_request(contexts: u8, s: &[u8]) -> Verdict
     ensures { λ r. ⌜ r ≡ requestJudged contexts (now (s .entry)) ⌝ }
 {
     if s.len() < 2 {
-        return Judgement::Cut;
+        return Verdict::Refused(Refusal::Cut);
     }
     let count = record_count(s);
     if (s[0] != 1) | (count == 0) {
-        return Judgement::Forbidden;
+        return Verdict::Refused(Refusal::Forbidden);
     }
     if s.len() != 2 + 3 * count {
-        return Judgement::Cut;
+        return Verdict::Refused(Refusal::Cut);
     }
     judge_records(contexts, s, count)
 }

@@ -14,8 +14,9 @@ use headers_read::read::read_header;
 use headers_write::checksum::ip_checksum;
 use headers_write::write::put_header;
 use links::fh::FullHeader;
-use links::judgement::Judgement;
 use packet::header::Header;
+use packet::refusal::Refusal;
+use packet::refusal::Verdict;
 
 // The leading bits of the two length fields.
 fn fields_form(s: &[u8]) -> bool
@@ -26,25 +27,25 @@ fn fields_form(s: &[u8]) -> bool
 }
 
 // A full header of any bytes, judged whole. The total length is its own, since only two fields differ from its packet.
-pub fn judge_fh(contexts: u8, s: &[u8]) -> Judgement
+pub fn judge_fh(contexts: u8, s: &[u8]) -> Verdict
     requires { ⌜ length (now s) < 65536 ⌝ }
     ensures { λ r. ⌜ r ≡ fhJudged contexts (now (s .entry)) ⌝ }
 {
     let n = s.len();
     if n < 40 {
-        return Judgement::Cut;
+        return Verdict::Refused(Refusal::Cut);
     }
     if contexts <= s[3] {
-        return Judgement::NoSuchContext;
+        return Verdict::Refused(Refusal::NoSuchContext);
     }
     let right = word_at(s, 10) == ip_checksum_of(s, n as u16);
     if !(fixed_form(s) & fields_form(s) & right) {
-        return Judgement::Forbidden;
+        return Verdict::Refused(Refusal::Forbidden);
     }
     if n < 40 + 4 * count_at(s, 28) {
-        return Judgement::Cut;
+        return Verdict::Refused(Refusal::Cut);
     }
-    Judgement::Good
+    Verdict::Accepted
 }
 
 // The six bits below a byte's top two.

@@ -11,7 +11,7 @@ use borrow.Author.Tests.{eqb-true}
 use lib.Dec.{eqb, ltb}
 use lib.ListN.{length, getD, take, drop, length-append, take-append-drop}
 use lib.Seq.{take-suc, take-all, length-take-le}
-use Rattle.links.specs.declared.judgement.Judgement.the-variants.{Good}
+use Rattle.packet.specs.declared.refusal.Verdict.the-variants.{Accepted}
 use Rattle.links.specs.Cs.{State, recordsBytes, csBytes, requestJudged}
 use Rattle.links.specs.CsLaws.{StateFits, StatesFit, none-fit, more-fit, length-recordsBytes, length-csBytes, recordsBytes-append, requestJudged-csBytes}
 use Rattle.context.specs.All.{all}
@@ -22,7 +22,7 @@ use Rattle.context.specs.declared.decompressor.Status.the-variants.{Empty, Live
 use Rattle.context.specs.declared.decompressor.DecompressorContext.{DecompressorContext}
 use Rattle.bytes.specs.Put.{Wrote}
 use Rattle.bytes.specs.PutLaws.{wrote-front}
-use Rattle.context.specs.declared.refusal.Refusal.the-variants.{NoRoom}
+use Rattle.packet.specs.declared.refusal.Refusal.the-variants.{NoRoom}
 use Rattle.decompressor.specs.declared.answer.Outcome.the-variants.{Accepted, Refused}
 use Rattle.decompressor.specs.declared.table.Table.{Table}
 use Rattle.decompressor.specs.Answer.{said, accepted, refused, delivered}
@@ -222,7 +222,7 @@ module _ (k : ℕ) where
       (states-fit (suc i) cs (p .1) (rest-empty i c cs (k - i) refl e))
 
 -- what a sound table reports, if it reports anything, is a good request
-pub report-good : (t : Table) → Sound t → 0 < length (statesFrom 0 (t .contexts)) → requestJudged (t .settings .contexts) (reportBytes t) ≡ Good
+pub report-good : (t : Table) → Sound t → 0 < length (statesFrom 0 (t .contexts)) → requestJudged (t .settings .contexts) (reportBytes t) ≡ Accepted
 report-good t s h =
     rw (reportOn-some (statesFrom 0 (t .contexts)) h)
     (requestJudged-csBytes (t .settings .contexts) (statesFrom 0 (t .contexts)) h (states-fit (t .settings .contexts) 0 (t .contexts) (s .contexts) (rw sub-zero (s .rest))))

@@ -15,13 +15,14 @@ ghost use Rattle.report.specs.Report.{isBroken, statesFrom, reportOf};
 ghost use Rattle.report.specs.ReportLaws.{statesOf};
 use context::decompressor::DecompressorContext;
 use context::decompressor::Status;
-use context::refusal::Refusal;
 use decompressor::answer::Answer;
 use decompressor::answer::Outcome;
 use decompressor::table::Table;
 use decompressor::table::sound;
+use packet::refusal::Refusal;
 use refresh::cs::put_count;
 use refresh::cs::put_record;
+use settings::Settings;
 
 // How many records a context has: one where it is broken.
 fn records_of(c: DecompressorContext) -> usize
@@ -35,12 +36,12 @@ fn records_of(c: DecompressorContext) -> usize
     }
 }
 
-fn count_records(contexts: [DecompressorContext; 64]) -> usize
+fn count_records(contexts: [DecompressorContext; Settings::PLACES]) -> usize
     ensures { λ r. ⌜ (r ≡ length (statesFrom 0 contexts)) × (r ≤ 64) ⌝ }
 {
     let mut n = 0;
     let mut i = 0;
-    while i < 64 {
+    while i < Settings::PLACES {
         let c = contexts[i];
         n += records_of(c);
         i += 1;
@@ -64,13 +65,13 @@ fn put_state(out: &mut [u8], at: usize, i: usize, c: DecompressorContext) -> usi
     }
 }
 
-fn put_states(out: &mut [u8], at: usize, contexts: [DecompressorContext; 64]) -> usize
+fn put_states(out: &mut [u8], at: usize, contexts: [DecompressorContext; Settings::PLACES]) -> usize
     requires { ⌜ (all soundDecompressor contexts ≡ true) × (at + length (recordsBytes (statesFrom 0 contexts)) ≤ length (now out)) ⌝ }
     ensures { λ r. ⌜ Wrote (now (out .entry)) (now (out .exit)) at r (recordsBytes (statesFrom 0 contexts)) ⌝ }
 {
     let mut o = at;
     let mut i = 0;
-    while i < 64 {
+    while i < Settings::PLACES {
         let c = contexts[i];
         o = put_state(out, o, i, c);
         i += 1;

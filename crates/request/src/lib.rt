@@ -16,8 +16,8 @@ use compressor::answer::Outcome;
 use compressor::table::Table;
 use compressor::table::sound;
 use context::compressor::CompressorContext;
-use context::refusal::Refusal;
-use links::judgement::Judgement;
+use packet::refusal::Refusal;
+use packet::refusal::Verdict;
 use refresh::cs::judge_request;
 use refresh::cs::record_asks;
 use refresh::cs::record_context;
@@ -65,20 +65,12 @@ pub fn request(t: Table, s: &[u8]) -> Answer
         };
     }
     match judge_request(t.settings.contexts, s) {
-        Judgement::Good => Answer {
+        Verdict::Accepted => Answer {
             outcome: Outcome::Accepted(0, 0),
             table: act_on_all(t, s),
         },
-        Judgement::Cut => Answer {
-            outcome: Outcome::Refused(Refusal::Cut),
-            table: t,
-        },
-        Judgement::Forbidden => Answer {
-            outcome: Outcome::Refused(Refusal::Forbidden),
-            table: t,
-        },
-        Judgement::NoSuchContext => Answer {
-            outcome: Outcome::Refused(Refusal::NoSuchContext),
+        Verdict::Refused(why) => Answer {
+            outcome: Outcome::Refused(why),
             table: t,
         },
     }

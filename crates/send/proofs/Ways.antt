@@ -15,7 +15,9 @@ use Rattle.compressor.specs.declared.lookup.Found.the-variants.{At, Nowhere}
 use Rattle.compressor.specs.Answer.{refused}
 use Rattle.compressor.specs.Table.{soundOf}
 use Rattle.compressor.specs.Lookup.{placeOf}
-use Rattle.compressor.specs.Send.{sendAt, sendPlain, sendTo, lengthAllowed, sendOf}
+use Rattle.compressor.specs.Send.{sendAt, sendPlain, sendTo, sendOf}
+use Rattle.settings.specs.Settings.{lengthAllowed}
+use Rattle.settings.specs.SettingsLaws.{lengthAllowed-true}
 use Rattle.compressor.specs.SendLaws.{On, placeOf-found}
 use Rattle.compressor.specs.Ready.{sendWith}
 
@@ -25,11 +27,11 @@ module _ (t : Table) (p output : List ℕ) where
   way-unsound s = rw s
 
   module _ (s : soundOf t ≡ true) where
-    pub way-length : lengthAllowed p ≡ false → refused t 2 output ≡ sendOf t p output
+    pub way-length : lengthAllowed (length p) ≡ false → refused t 2 output ≡ sendOf t p output
     unfolding sendOf
     way-length l = rw (s, l)
 
-    module _ (l : lengthAllowed p ≡ true) where
+    module _ (l : lengthAllowed (length p) ≡ true) where
       pub way-plain : compressible p ≡ false → sendPlain t p output ≡ sendOf t p output
       unfolding sendOf
       way-plain e = rw (s, l, e)
@@ -44,7 +46,7 @@ module _ (t : Table) (p output : List ℕ) where
         way-at i q = rw (s, l, e, q)
 
         most : length p ≤ 1500
-        most = leb-true (length p) 1500 (and-eq-true-iff (leb 1 (length p)) (leb (length p) 1500) .0 l .1)
+        most = lengthAllowed-true (length p) l .1
 
         pub way-on : (i : ℕ) → placeOf t (headerOf p .flow) ≡ At i → On t p i
         way-on i q = record { sound = s; compressible = e; most = most; place = placeOf-found t (headerOf p .flow) i q }

@@ -15,7 +15,6 @@ use compressor::lookup::Found;
 use compressor::lookup::find;
 use compressor::table::Table;
 use compressor::table::sound;
-use context::refusal::Refusal;
 use headers_read::form::is_compressible;
 use headers_read::read::read_header;
 use outgoing::link::kind_number;
@@ -23,7 +22,9 @@ use outgoing::link::link_size;
 use outgoing::link::put_link;
 use outgoing::step::step_on;
 use packet::header::Header;
+use packet::refusal::Refusal;
 use refresh::fh::fh_size;
+use settings::Settings;
 
 // A packet that goes out as it is.
 fn send_plain(t: Table, p: &[u8], out: &mut [u8]) -> Answer
@@ -80,7 +81,7 @@ pub fn send(t: Table, p: &[u8], out: &mut [u8]) -> Answer
             table: t,
         };
     }
-    let allowed = (1 <= p.len()) & (p.len() <= 1500);
+    let allowed = (1 <= p.len()) & (p.len() <= Settings::LONGEST);
     if !allowed {
         return Answer {
             outcome: Outcome::Refused(Refusal::BadLength),

@@ -5,8 +5,8 @@ use Prim.Native.Nat.{ℕ, _≤_}
 use mathlib.Core.Path.{_≡_}
 use mathlib.Core.Bool.{true, _&&_, and-eq-true-iff}
 use lib.Dec.{leb}
-use borrow.Author.Tests.{leb-true}
-use Rattle.settings.specs.Settings.{inRange}
+use borrow.Author.Tests.{leb-true, le-leb}
+use Rattle.settings.specs.Settings.{inRange, lengthAllowed}
 
 ---- inRange
 
@@ -22,3 +22,11 @@ module _ (n k : ℕ) (e : inRange n k ≡ true) where
 
   pub range-most : k ≤ 64
   range-most = leb-true k 64 ((and-eq-true-iff (leb n 14 && leb 1 k) (leb k 64)) .0 e .1)
+
+---- lengthAllowed
+
+pub lengthAllowed-true : (n : ℕ) → lengthAllowed n ≡ true → (1 ≤ n) × (n ≤ 1500)
+lengthAllowed-true n e = let p = and-eq-true-iff (leb 1 n) (leb n 1500) .0 e in (leb-true 1 n (p .0), leb-true n 1500 (p .1))
+
+pub lengthAllowed-made : (n : ℕ) → 1 ≤ n → n ≤ 1500 → lengthAllowed n ≡ true
+lengthAllowed-made n least most = rw (le-leb 1 n least, le-leb n 1500 most)

@@ -14,7 +14,7 @@ pub struct Settings {
 }
 
 pub enum Opened {
-    Ready(Settings),
+    Accepted(Settings),
     Refused,
 }
 
@@ -24,6 +24,12 @@ impl Settings {
     pub const MIN_CONTEXTS: u32 = 1;
 
     pub const MAX_CONTEXTS: u32 = 64;
+
+    // How many places a table has: as many as there can be contexts.
+    pub const PLACES: usize = 64;
+
+    // How many bytes a packet has at the most (rule 1.4).
+    pub const LONGEST: usize = 1500;
 
     fn in_range(n: u32, k: u32) -> bool
         ensures { λ r. ⌜ r ≡ inRange n k ⌝ }
@@ -36,7 +42,7 @@ impl Settings {
         ensures { λ r. ⌜ r ≡ openOf n k ⌝ }
     {
         if Settings::in_range(n, k) {
-            return Opened::Ready(Settings {
+            return Opened::Accepted(Settings {
                 repeats: n as u8,
                 contexts: k as u8,
             });

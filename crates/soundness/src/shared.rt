@@ -9,12 +9,12 @@ use packet::header::Ip;
 use packet::header::Rtp;
 
 // Whether all words from the given place on are 0. Every word is looked at, so that the turns are as many for every count.
-fn zero_from(words: [u32; 15], count: u8) -> bool
+fn zero_from(words: [u32; Csrc::PLACES], count: u8) -> bool
     ensures { λ r. ⌜ r ≡ zeros (drop count words) ⌝ }
 {
     let mut ok = true;
     let mut i = 0;
-    while i < 15 {
+    while i < Csrc::PLACES {
         ok = ok & ((words[i] == 0) | (i < count as usize));
         i += 1;
     }
@@ -25,13 +25,13 @@ pub fn sound_list(l: Csrc) -> bool
     ensures { λ r. ⌜ r ≡ soundList l ⌝ }
 {
     let words = l.words;
-    (l.count <= 15) & zero_from(words, l.count)
+    (l.count <= Csrc::MAX_COUNT) & zero_from(words, l.count)
 }
 
 pub fn sound_link(l: Link) -> bool
     ensures { λ r. ⌜ r ≡ soundLink l ⌝ }
 {
-    (l.sequence <= 15) & (l.generation <= 63)
+    (l.sequence <= Link::MAX_SEQUENCE) & (l.generation <= Link::MAX_GENERATION)
 }
 
 pub fn zero_flow(f: Flow) -> bool

@@ -3,7 +3,7 @@ use Rattle.compressor.specs.Request.{requestTable}
 use Rattle.compressor.specs.ReadyLaws.{sound-repeats, sound-most}
 use Rattle.compressor.specs.TableLaws.{soundOf-true}
 use mathlib.Core.Path.{sym, _∙_}
-use Rattle.links.specs.declared.judgement.Judgement.the-variants.{Good, Cut, Forbidden, NoSuchContext}
+use Rattle.packet.specs.declared.refusal.Verdict.the-variants.{Accepted, Refused}
 use Rattle.links.specs.CsLaws.{requestJudged-good}
 use Rattle.compressor.specs.RequestLaws.{requestOf-unsound, requestOf-judged}
 use borrow.Author.Needs.{needs}
@@ -28,35 +28,19 @@ act-on-all-requires c κs = let a = c .before .before .before .before .before .b
     let s = soundOf-true (a .t) (sym (c .before .before .before .before .sound .ensures) ∙ not-false _ (c .before .before .before .if1 .left)) in
     (sound-repeats (a .t) s, sound-most (a .t) s, requestJudged-good (a .t .settings .contexts) (a .s .now) (sym (c .before .before .judge-request .ensures) ∙ c .enum-told .given .1))
 
-enum-told-2 : tie.Need-enum-told-2
-enum-told-2 c = search needs
-
-enum-told-3 : tie.Need-enum-told-3
-enum-told-3 c = search needs
-
-enum-told-4 : tie.Need-enum-told-4
-enum-told-4 c = search needs
+enum-known-why : tie.Need-enum-known-why
+enum-known-why c = search needs
 
 returns-2 : tie.Need-returns-2
 returns-2 c = let a = c .before .before .before .before .before .before .before .args in
     rw (c .act-on-all .ensures)
-    (requestOf-judged (a .t) (a .s .now) Good (sym (c .before .before .before .before .before .sound .ensures) ∙ not-false _ (c .before .before .before .before .if1 .left))
+    (requestOf-judged (a .t) (a .s .now) Accepted (sym (c .before .before .before .before .before .sound .ensures) ∙ not-false _ (c .before .before .before .before .if1 .left))
     (sym (c .before .before .before .judge-request .ensures) ∙ c .before .enum-told .given .1))
 
 returns-3 : tie.Need-returns-3
-returns-3 c = let a = c .before .before .before .before .before .before .args in
-    requestOf-judged (a .t) (a .s .now) Cut (sym (c .before .before .before .before .sound .ensures) ∙ not-false _ (c .before .before .before .if1 .left))
-    (sym (c .before .before .judge-request .ensures) ∙ c .enum-told2 .given .1)
-
-returns-4 : tie.Need-returns-4
-returns-4 c = let a = c .before .before .before .before .before .before .args in
-    requestOf-judged (a .t) (a .s .now) Forbidden (sym (c .before .before .before .before .sound .ensures) ∙ not-false _ (c .before .before .before .if1 .left))
-    (sym (c .before .before .judge-request .ensures) ∙ c .enum-told3 .given .1)
-
-returns-5 : tie.Need-returns-5
-returns-5 c = let a = c .before .before .before .before .before .before .args in
-    requestOf-judged (a .t) (a .s .now) NoSuchContext (sym (c .before .before .before .before .sound .ensures) ∙ not-false _ (c .before .before .before .if1 .left))
-    (sym (c .before .before .judge-request .ensures) ∙ c .enum-told4 .given .1)
+returns-3 c = let a = c .before .before .before .before .before .before .before .args in
+    requestOf-judged (a .t) (a .s .now) (Refused (c .before .why .given .0 .0)) (sym (c .before .before .before .before .before .sound .ensures) ∙ not-false _ (c .before .before .before .before .if1 .left))
+    (sym (c .before .before .before .judge-request .ensures) ∙ c .before .why .given .1)
 
 pub request-spec : {M : Type 1} → statement M
 request-spec =
@@ -67,10 +51,6 @@ request-spec =
     judge-request-requires
     enum-told
     act-on-all-requires
-    enum-told-2
-    enum-told-3
-    enum-told-4
+    enum-known-why
     returns-2
-    returns-3
-    returns-4
-    returns-5)
+    returns-3)

@@ -1,21 +1,23 @@
 use mathlib.Core.Path.{sym, _∙_}
-use Rattle.context.proofs.Gap.{outcome-accepted}
+use Rattle.context.proofs.Gap.{gapVerdict-accepted}
 use Rattle.context.specs.Decompressor.{applied, settled}
 use borrow.Author.Needs.{needs}
 use Rattle.decompress.proofs.apply.apply.Statement.{statement}
 use Rattle.decompress.proofs.apply.apply.Tie as tie
 
-outcome-of-requires : tie.Need-outcome-of-requires
-outcome-of-requires c κs = search needs
+gap-of-requires : tie.Need-gap-of-requires
+gap-of-requires c κs = search needs
+
+judge-gap-requires : tie.Need-judge-gap-requires
+judge-gap-requires c κs = search needs
 
 enum-told : tie.Need-enum-told
 enum-told c = search needs
 
-gap-of-requires : tie.Need-gap-of-requires
-gap-of-requires c κs = search needs
-
 advance-requires : tie.Need-advance-requires
-advance-requires c κs = let a = c .before .before .before .before .args in rw (c .gap-of .ensures) (outcome-accepted (a .n) (a .q) (a .c) (sym (c .before .before .before .outcome-of .ensures) ∙ c .before .enum-told .given .1))
+advance-requires c κs =
+    let a = c .before .before .before .before .args in
+    gapVerdict-accepted (a .n) (c .before .before .before .gap-of .result) (sym (c .before .before .judge-gap .ensures) ∙ c .enum-told .given .1)
 
 enum-known-why : tie.Need-enum-known-why
 enum-known-why c = search needs
@@ -25,19 +27,31 @@ refuse-requires c κs = search needs
 
 returns : tie.Need-returns
 unfolding applied settled
-returns c = rw (← c .before .before .before .before .outcome-of .ensures, c .before .before .enum-told .given .1, c .advance .ensures, c .before .gap-of .ensures)
+returns c =
+    rw (
+      ← c .before .before .before .before .gap-of .ensures,
+      ← c .before .before .before .judge-gap .ensures,
+      c .before .enum-told .given .1,
+      c .advance .ensures,
+    )
 
 returns-2 : tie.Need-returns-2
 unfolding applied settled
-returns-2 c = rw (← c .before .before .before .before .outcome-of .ensures, c .before .before .why .given .1) (c .refuse .ensures)
+returns-2 c =
+    rw (
+      ← c .before .before .before .before .before .gap-of .ensures,
+      ← c .before .before .before .before .judge-gap .ensures,
+      c .before .before .why .given .1,
+    )
+    (c .refuse .ensures)
 
 pub apply-spec : {M : Type 1} → statement M
 apply-spec =
     tie.close
     (tie.spec
-    outcome-of-requires
-    enum-told
     gap-of-requires
+    judge-gap-requires
+    enum-told
     advance-requires
     enum-known-why
     refuse-requires

@@ -1,8 +1,8 @@
 use mathlib.Core.Bool.{Bool, cond}
 use mathlib.Core.Path.{sym, ap}
-use Rattle.context.specs.Decompressor.{gapOutcome}
-use Rattle.context.specs.declared.decompressor.Outcome.the-variants.{Accepted, Refused}
-use Rattle.context.specs.declared.refusal.Refusal.the-variants.{OutOfStep}
+use Rattle.context.specs.Decompressor.{gapVerdict}
+use Rattle.packet.specs.declared.refusal.Verdict.the-variants.{Accepted, Refused}
+use Rattle.packet.specs.declared.refusal.Refusal.the-variants.{OutOfStep}
 use borrow.Author.Needs.{needs}
 use Rattle.decompress.proofs.gap.judge_gap.Statement.{statement}
 use Rattle.decompress.proofs.gap.judge_gap.Tie as tie
@@ -11,11 +11,11 @@ add-if1 : tie.Need-add-if1
 add-if1 c = search needs
 
 returns : tie.Need-returns
-unfolding gapOutcome
+unfolding gapVerdict
 returns c = sym (ap (λ (b : Bool). cond b (Refused OutOfStep) Accepted) (c .if1 .taken))
 
 returns-2 : tie.Need-returns-2
-unfolding gapOutcome
+unfolding gapVerdict
 returns-2 c = sym (ap (λ (b : Bool). cond b (Refused OutOfStep) Accepted) (c .if1 .left))
 
 pub judge-gap-spec : {M : Type 1} → statement M

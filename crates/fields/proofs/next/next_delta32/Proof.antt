@@ -3,8 +3,8 @@ use borrow.Author.Needs.{needs}
 use Rattle.fields.proofs.next.next_delta32.Statement.{statement}
 use Rattle.fields.proofs.next.next_delta32.Tie as tie
 
-is-good-requires : tie.Need-is-good-requires
-is-good-requires c κs = search needs
+is-accepted-requires : tie.Need-is-accepted-requires
+is-accepted-requires c κs = search needs
 
 delta32-requires : tie.Need-delta32-requires
 delta32-requires c κs = search needs
@@ -38,25 +38,25 @@ none32-requires-3 c κs = search needs
 
 returns : tie.Need-returns
 unfolding nextDelta32 next
-returns c = rw (c .there32 .ensures, ← c .before .before .before .before .before .before .is-good .ensures, c .before .before .before .before .before .if1 .taken, ← c .before .before .before .before .delta32 .ensures, c .before .before .v .given .1)
+returns c = rw (c .there32 .ensures, ← c .before .before .before .before .before .before .is-accepted .ensures, c .before .before .before .before .before .if1 .taken, ← c .before .before .before .before .delta32 .ensures, c .before .before .v .given .1)
 
 returns-2 : tie.Need-returns-2
 unfolding nextDelta32 next
-returns-2 c = rw (c .none32 .ensures, c .before .stop .ensures, ← c .before .before .before .before .before .before .is-good .ensures, c .before .before .before .before .before .if1 .taken, ← c .before .before .before .before .delta32 .ensures, c .before .before .enum-told .given .1)
+returns-2 c = rw (c .none32 .ensures, c .before .stop .ensures, ← c .before .before .before .before .before .before .is-accepted .ensures, c .before .before .before .before .before .if1 .taken, ← c .before .before .before .before .delta32 .ensures, c .before .before .enum-told .given .1)
 
 returns-3 : tie.Need-returns-3
 unfolding nextDelta32 next
-returns-3 c = rw (c .none322 .ensures, c .before .stop2 .ensures, ← c .before .before .before .before .before .before .is-good .ensures, c .before .before .before .before .before .if1 .taken, ← c .before .before .before .before .delta32 .ensures, c .before .before .enum-told2 .given .1)
+returns-3 c = rw (c .none322 .ensures, c .before .stop2 .ensures, ← c .before .before .before .before .before .before .is-accepted .ensures, c .before .before .before .before .before .if1 .taken, ← c .before .before .before .before .delta32 .ensures, c .before .before .enum-told2 .given .1)
 
 returns-4 : tie.Need-returns-4
 unfolding nextDelta32 next
-returns-4 c = rw (c .none323 .ensures, ← c .before .before .is-good .ensures, c .before .if1 .left)
+returns-4 c = rw (c .none323 .ensures, ← c .before .before .is-accepted .ensures, c .before .if1 .left)
 
 pub next-delta32-spec : {M : Type 1} → statement M
 next-delta32-spec =
     tie.close
     (tie.spec
-    is-good-requires
+    is-accepted-requires
     delta32-requires
     enum-known-v
     there32-requires

@@ -4,8 +4,8 @@ use borrow.Author.Needs.{needs}
 use Rattle.fields.proofs.next.next_payload.Statement.{statement}
 use Rattle.fields.proofs.next.next_payload.Tie as tie
 
-is-good-requires : tie.Need-is-good-requires
-is-good-requires c κs = search needs
+is-accepted-requires : tie.Need-is-accepted-requires
+is-accepted-requires c κs = search needs
 
 byte-requires : tie.Need-byte-requires
 byte-requires c κs = search needs
@@ -18,7 +18,7 @@ there8-requires c κs = search needs
 
 returns : tie.Need-returns
 unfolding nextPayload readPayload next
-returns c = rw (c .there8 .ensures, ← c .before .before .before .before .before .before .before .is-good .ensures, c .before .before .before .before .before .before .if1 .taken, ← c .before .before .before .before .before .byte .ensures, c .before .before .before .v .given .1, lt-ltb _ 128 (c .before .if2 .taken))
+returns c = rw (c .there8 .ensures, ← c .before .before .before .before .before .before .before .is-accepted .ensures, c .before .before .before .before .before .before .if1 .taken, ← c .before .before .before .before .before .byte .ensures, c .before .before .before .v .given .1, lt-ltb _ 128 (c .before .if2 .taken))
 
 stop-requires : tie.Need-stop-requires
 stop-requires c κs = search needs
@@ -40,21 +40,21 @@ none8-requires-3 c κs = search needs
 
 returns-2 : tie.Need-returns-2
 unfolding nextPayload readPayload next
-returns-2 c = rw (c .none8 .ensures, c .before .stop .ensures, ← c .before .before .before .before .before .before .before .before .is-good .ensures, c .before .before .before .before .before .before .before .if1 .taken, ← c .before .before .before .before .before .before .byte .ensures, c .before .before .before .before .v .given .1, le-ltb _ 128 (c .before .before .if2 .left))
+returns-2 c = rw (c .none8 .ensures, c .before .stop .ensures, ← c .before .before .before .before .before .before .before .before .is-accepted .ensures, c .before .before .before .before .before .before .before .if1 .taken, ← c .before .before .before .before .before .before .byte .ensures, c .before .before .before .before .v .given .1, le-ltb _ 128 (c .before .before .if2 .left))
 
 returns-3 : tie.Need-returns-3
 unfolding nextPayload readPayload next
-returns-3 c = rw (c .none82 .ensures, c .before .stop2 .ensures, ← c .before .before .before .before .before .before .is-good .ensures, c .before .before .before .before .before .if1 .taken, ← c .before .before .before .before .byte .ensures, c .before .before .enum-told .given .1)
+returns-3 c = rw (c .none82 .ensures, c .before .stop2 .ensures, ← c .before .before .before .before .before .before .is-accepted .ensures, c .before .before .before .before .before .if1 .taken, ← c .before .before .before .before .byte .ensures, c .before .before .enum-told .given .1)
 
 returns-4 : tie.Need-returns-4
 unfolding nextPayload readPayload next
-returns-4 c = rw (c .none83 .ensures, ← c .before .before .is-good .ensures, c .before .if1 .left)
+returns-4 c = rw (c .none83 .ensures, ← c .before .before .is-accepted .ensures, c .before .if1 .left)
 
 pub next-payload-spec : {M : Type 1} → statement M
 next-payload-spec =
     tie.close
     (tie.spec
-    is-good-requires
+    is-accepted-requires
     byte-requires
     enum-known-v
     there8-requires

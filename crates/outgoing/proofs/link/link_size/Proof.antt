@@ -4,6 +4,9 @@ use borrow.Author.Needs.{needs}
 use Rattle.outgoing.proofs.link.link_size.Statement.{statement}
 use Rattle.outgoing.proofs.link.link_size.Tie as tie
 
+sends-checksum-requires : tie.Need-sends-checksum-requires
+sends-checksum-requires c κs = search needs
+
 enum-told : tie.Need-enum-told
 enum-told c = search needs
 
@@ -28,16 +31,17 @@ returns c = rw (c .before .enum-told .given .1) (c .fh-size .ensures)
 
 returns-2 : tie.Need-returns-2
 unfolding linkSize
-returns-2 c = rw (c .before .enum-told2 .given .1) (c .cu-size .ensures .0, omega arith)
+returns-2 c = rw (c .before .enum-told2 .given .1) (rw (c .before .before .before .before .sends-checksum .ensures) at (c .cu-size .ensures .0), omega arith)
 
 returns-3 : tie.Need-returns-3
 unfolding linkSize
-returns-3 c = rw (c .before .enum-told3 .given .1) (c .cr-size .ensures .0, omega arith)
+returns-3 c = rw (c .before .enum-told3 .given .1) (rw (c .before .before .before .before .sends-checksum .ensures) at (c .cr-size .ensures .0), omega arith)
 
 pub link-size-spec : {M : Type 1} → statement M
 link-size-spec =
     tie.close
     (tie.spec
+    sends-checksum-requires
     enum-told
     fh-size-requires
     enum-told-2

@@ -10,7 +10,7 @@ apply-requires c κs = search needs
 settle-read-requires : tie.Need-settle-read-requires
 settle-read-requires c κs = let p = c .before .before .before .before .before .before .pre in
     let a = c .before .before .before .before .before .before .args in
-    (rw (c .before .apply .ensures) (applied-narrow (a .n) (a .q) (a .c) (a .x .parts) (a .x .parts .checksum) (p .1) (p .2) (p .3)), p .4, p .5)
+    (rw (c .before .apply .ensures) (applied-narrow (a .n) (a .q) (a .c) (a .x .parts) (p .2) (a .x .parts .checksum) (p .1) (p .3) (p .4)), p .5, p .6)
 
 same-length : tie.Need-same-length
 same-length c = search needs

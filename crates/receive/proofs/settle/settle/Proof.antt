@@ -10,8 +10,8 @@ rebuild-to-requires : tie.Need-rebuild-to-requires
 rebuild-to-requires c κs = let p = c .before .before .before .before .before .before .pre in
     (p .0 (c .before .enum-told .given .1), p .1)
 
-enum-known-o : tie.Need-enum-known-o
-enum-known-o c = search needs
+enum-known-found : tie.Need-enum-known-found
+enum-known-found c = search needs
 
 same-length : tie.Need-same-length
 same-length c = search needs
@@ -21,8 +21,8 @@ returns c = λ n. rw (c .before .before .before .before .enum-told .given .1) (c
 
 returns-2 : tie.Need-returns-2
 returns-2 c = let a = c .before .before .before .before .before .before .args in
-    λ n. rw (c .before .o .given .1) (takes-broken n (a .before) (a .out .now) _ (a .a .context))
+    λ n. rw (c .before .found .given .1) (takes-broken n (a .before) (a .out .now) _ (a .a .context))
 
 pub settle-spec : {M : Type 1} → statement M
 settle-spec =
-    tie.close (tie.spec enum-told rebuild-to-requires enum-known-o same-length returns returns-2)
+    tie.close (tie.spec enum-told rebuild-to-requires enum-known-found same-length returns returns-2)

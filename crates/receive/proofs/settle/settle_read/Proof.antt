@@ -1,4 +1,3 @@
-use Rattle.context.specs.declared.refusal.Refusal.the-variants as refusals
 use Rattle.receive.specs.TakenLaws.{takes-refused}
 use Rattle.context.proofs.Arrays.{part-rest}
 use borrow.Author.Needs.{needs}
@@ -20,14 +19,8 @@ part-settle-end c = search needs
 settle-requires : tie.Need-settle-requires
 settle-requires c κs = search needs
 
-enum-told-2 : tie.Need-enum-told-2
-enum-told-2 c = search needs
-
-enum-told-3 : tie.Need-enum-told-3
-enum-told-3 c = search needs
-
-enum-told-4 : tie.Need-enum-told-4
-enum-told-4 c = search needs
+enum-known-found : tie.Need-enum-known-found
+enum-known-found c = search needs
 
 same-length : tie.Need-same-length
 same-length c = search needs
@@ -37,16 +30,8 @@ returns c = let a = c .before .before .before .before .before .before .before .b
     λ n. rw (c .before .before .before .before .before .enum-told .given .1) (rw (part-rest (a .s .now) (a .p .cursor .at)) at (c .before .before .settle .ensures n))
 
 returns-2 : tie.Need-returns-2
-returns-2 c = let a = c .before .before .before .before .args in
-    λ n. rw (c .enum-told2 .given .1) (takes-refused n (a .before) (a .out .now) refusals.Cut)
-
-returns-3 : tie.Need-returns-3
-returns-3 c = let a = c .before .before .before .before .args in
-    λ n. rw (c .enum-told3 .given .1) (takes-refused n (a .before) (a .out .now) refusals.Forbidden)
-
-returns-4 : tie.Need-returns-4
-returns-4 c = let a = c .before .before .before .before .args in
-    λ n. rw (c .enum-told4 .given .1) (takes-refused n (a .before) (a .out .now) refusals.UnusedCode)
+returns-2 c = let a = c .before .before .before .before .before .args in
+    λ n. rw (c .before .found .given .1) (takes-refused n (a .before) (a .out .now) _)
 
 pub settle-read-spec : {M : Type 1} → statement M
 settle-read-spec =
@@ -57,11 +42,7 @@ settle-read-spec =
     part-settle-start
     part-settle-end
     settle-requires
-    enum-told-2
-    enum-told-3
-    enum-told-4
+    enum-known-found
     same-length
     returns
-    returns-2
-    returns-3
-    returns-4)
+    returns-2)

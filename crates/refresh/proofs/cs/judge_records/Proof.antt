@@ -23,26 +23,12 @@ judge-record-requires c κs = search needs
 enum-told : tie.Need-enum-told Inv-loop μ-loop
 enum-told c = search needs
 
-enum-told-2 : tie.Need-enum-told-2 Inv-loop μ-loop
-enum-told-2 c = search needs
+enum-known-why : tie.Need-enum-known-why Inv-loop μ-loop
+enum-known-why c = search needs
 
 returns : tie.Need-returns Inv-loop μ-loop
-returns c = let l = c .before .before .before .before .loop in
-    rw (l .inv .1, recordsJudged-more _ _ (l .i) _ (c .before .before .before .loop-test .taken), ← c .before .before .judge-record .ensures, c .enum-told2 .given .1)
-
-enum-told-3 : tie.Need-enum-told-3 Inv-loop μ-loop
-enum-told-3 c = search needs
-
-returns-2 : tie.Need-returns-2 Inv-loop μ-loop
-returns-2 c = let l = c .before .before .before .before .loop in
-    rw (l .inv .1, recordsJudged-more _ _ (l .i) _ (c .before .before .before .loop-test .taken), ← c .before .before .judge-record .ensures, c .enum-told3 .given .1)
-
-enum-told-4 : tie.Need-enum-told-4 Inv-loop μ-loop
-enum-told-4 c = search needs
-
-returns-3 : tie.Need-returns-3 Inv-loop μ-loop
-returns-3 c = let l = c .before .before .before .before .loop in
-    rw (l .inv .1, recordsJudged-more _ _ (l .i) _ (c .before .before .before .loop-test .taken), ← c .before .before .judge-record .ensures, c .enum-told4 .given .1)
+returns c = let l = c .before .before .before .before .before .loop in
+    rw (l .inv .1, recordsJudged-more _ _ (l .i) _ (c .before .before .before .before .loop-test .taken), ← c .before .before .before .judge-record .ensures, c .before .why .given .1)
 
 add-i : tie.Need-add-i Inv-loop μ-loop
 add-i c = search needs
@@ -54,8 +40,8 @@ loop-again : tie.Need-loop-again Inv-loop μ-loop
 loop-again c = let l = c .before .before .before .before .loop in
     (omega arith, l .inv .1 ∙ rw (recordsJudged-more _ _ (l .i) _ (c .before .before .before .loop-test .taken), ← c .before .before .judge-record .ensures, c .enum-told .given .1))
 
-returns-4 : tie.Need-returns-4 Inv-loop μ-loop
-returns-4 c = let l = c .before .loop in
+returns-2 : tie.Need-returns-2 Inv-loop μ-loop
+returns-2 c = let l = c .before .loop in
     rw (l .inv .1, recordsJudged-none _ _ (l .i) _ (c .loop-test .left))
 
 pub judge-records-spec : {M : Type 1} → statement M
@@ -67,13 +53,9 @@ judge-records-spec =
     loop-holds
     judge-record-requires
     enum-told
-    enum-told-2
+    enum-known-why
     returns
-    enum-told-3
-    returns-2
-    enum-told-4
-    returns-3
     add-i
     loop-less
     loop-again
-    returns-4)
+    returns-2)

@@ -1,0 +1,32 @@
+-- Iarwennol. Laws of the refusals. Assume nothing.
+-- Used wherever a call's answer is told from its number.
+use Prim.Native.Nat.{ℕ, _≤_}
+use mathlib.Core.Path.{_≡_, refl}
+use native.Mathlib.Omega.{arith}
+use Rattle.packet.specs.declared.refusal.Refusal.{Refusal}
+use Rattle.packet.specs.declared.refusal.Refusal.the-variants.{Unsound, BadLength, UnknownType, Cut, Forbidden, NoSuchContext}
+use Rattle.packet.specs.declared.refusal.Refusal.the-variants.{UnusedCode, NotLive, OutOfStep, TooLong, NoRoom}
+use Rattle.packet.specs.declared.refusal.Verdict.{Verdict}
+use Rattle.packet.specs.declared.refusal.Verdict.the-variants.{Accepted, Refused}
+use Rattle.packet.specs.Refusal.{numberOf, firstRefusal}
+
+-- no refusal has the number of an acceptance
+pub numberOf-least : (r : Refusal) → 1 ≤ numberOf r
+numberOf-least Unsound = omega arith
+numberOf-least BadLength = omega arith
+numberOf-least UnknownType = omega arith
+numberOf-least Cut = omega arith
+numberOf-least Forbidden = omega arith
+numberOf-least NoSuchContext = omega arith
+numberOf-least UnusedCode = omega arith
+numberOf-least NotLive = omega arith
+numberOf-least OutOfStep = omega arith
+numberOf-least TooLong = omega arith
+numberOf-least NoRoom = omega arith
+
+pub refused-accepted : (r : Refusal) → Refused r ≡ Accepted → ⊥
+refused-accepted r e = let z : _≡_ {A = ℕ} 0 1 = cc in absurd (omega arith)
+
+pub firstRefusal-accepted : (a b : Verdict) → firstRefusal a b ≡ Accepted → (a ≡ Accepted) × (b ≡ Accepted)
+firstRefusal-accepted Accepted b e = (refl, e)
+firstRefusal-accepted (Refused r) b e = (e, absurd (refused-accepted r e))
