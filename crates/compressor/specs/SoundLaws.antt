@@ -26,8 +26,8 @@ use Rattle.compressor.specs.declared.table.Table.{Table}
 use Rattle.compressor.specs.declared.lookup.Found.{Found}
 use Rattle.compressor.specs.declared.lookup.Found.the-variants.{At, Nowhere}
 use Rattle.compressor.specs.Answer.{Result, refused, accepted, delivered}
-use Rattle.compressor.specs.Table.{noContext, contextAt, withContext, soundOf, emptyTable, openBy, openOf}
-use Rattle.compressor.specs.TableLaws.{Sound, soundOf-true, sound-withContext, sound-emptyTable, openOf-accepted}
+use Rattle.compressor.specs.Table.{noContext, contextAt, withContext, soundOf, emptyTable, openBy, openOf, Sound}
+use Rattle.compressor.specs.TableLaws.{soundOf-true, sound-withContext, sound-emptyTable, openOf-accepted}
 use Rattle.compressor.specs.Lookup.{placeOf}
 use Rattle.compressor.specs.Send.{stepOn, kindNumber, sentBytes, sendAt, sendPlain, sendTo, lengthAllowed, sendOf}
 use Rattle.compressor.specs.SendLaws.{On, stepAt, sentOn, Goes, goes-refused, goes-plain, goes-on, sendOf-goes}

@@ -18,7 +18,7 @@ use Rattle.settings.specs.SettingsLaws.{range-repeats, range-most}
 use Rattle.headers.specs.Header.{headerOf}
 use Rattle.headers.specs.HeaderLaws.{headerOf-range}
 use Rattle.links.specs.FhLaws.{FhFits}
-use Rattle.context.specs.AllLaws.{all-at}
+use Rattle.context.proofs.AllLaws.{all-at}
 use Rattle.context.specs.Range as context
 use Rattle.context.specs.Sound.{soundCompressor, emptyCompressor, emptyDecompressor}
 use Rattle.context.specs.Compressor.{skips, startedUnlessDue, requestedBy, requested}
@@ -44,7 +44,7 @@ use Rattle.decompressor.specs.Table as decompressing
 use Rattle.decompressor.specs.TableLaws as decompressing·laws
 use Rattle.decompressor.specs.Receive.{receiveOf}
 use Rattle.decompressor.specs.ReceiveLaws.{receive-plain}
-use Rattle.decompressor.specs.ReceiveSound.{named, Leaves, receive-leaves, leaves-sound, leaves-settings, leaves-length, leaves-other}
+use Rattle.decompressor.proofs.ReceiveSound.{named, Leaves, receive-leaves, leaves-sound, leaves-settings, leaves-length, leaves-other}
 use Rattle.calls.specs.Calls as calls
 use Rattle.calls.proofs.Faithful.{Laws, ready, faithful}
 use Rattle.crtp.specs.Robust.{Bytes, Rebuilt, Call, World, Opened, Premises, Robust}
@@ -107,7 +107,7 @@ module _ (n k : ℕ) where
       after = compressing.withContext t i (stepAt t (p .list) i .context)
 
       -- the tables' own part of the relation
-      on-table : (d′ : decompressor.Table) → d′ .settings ≡ d .settings → decompressing·laws.Sound d′ → length (d′ .contexts) ≡ 64
+      on-table : (d′ : decompressor.Table) → d′ .settings ≡ d .settings → decompressing.Sound d′ → length (d′ .contexts) ≡ 64
           → (j′ : ℕ) → Related n j′ (decompressing.contextAt d′ c) (compressing.contextAt after c) → Rel n k c j′ d′ after
       on-table d′ e s l j′ x = record {
         settings = r .settings;

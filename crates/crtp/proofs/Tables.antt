@@ -29,7 +29,7 @@ use Rattle.links.specs.Cu.{cuBytes}
 use Rattle.links.specs.CuLaws.{contextOf-cuBytes, allBytes-cuBytes}
 use Rattle.links.specs.Cr.{crBytes}
 use Rattle.links.specs.CrLaws.{contextOf-crBytes, allBytes-crBytes}
-use Rattle.context.specs.AllLaws.{all-at}
+use Rattle.context.proofs.AllLaws.{all-at}
 use Rattle.context.specs.Range as context
 use Rattle.context.specs.Relation.{Related, Arrives}
 use Rattle.context.specs.Sound.{soundCompressor, soundDecompressor}
@@ -46,7 +46,7 @@ use Rattle.compressor.specs.SendLaws.{On, stepAt}
 use Rattle.decompressor.specs.declared.table.Table as decompressor
 use Rattle.decompressor.specs.Table as decompressing
 use Rattle.decompressor.specs.TableLaws as receiving
-use Rattle.decompressor.specs.ReceiveSound.{named}
+use Rattle.decompressor.proofs.ReceiveSound.{named}
 use Rattle.crtp.proofs.Lists.{frameContext}
 use Rattle.crtp.proofs.Ranges.{fits-header}
 use Rattle.crtp.proofs.Steps.{stepOn-sound, stepOn-held, stepOn-udp, stepOn-rtp, stepOn-link}
@@ -56,8 +56,8 @@ use Rattle.crtp.proofs.Steps.{stepOn-sound, stepOn-held, stepOn-udp, st
 pub record Rel (n k c j : ℕ) (d : decompressor.Table) (t : compressor.Table) : Type 0 where
   pub settings : t .settings ≡ record { repeats = n; contexts = k }
   pub shared : d .settings ≡ t .settings
-  pub soundC : sending.Sound t
-  pub soundD : receiving.Sound d
+  pub soundC : compressing.Sound t
+  pub soundD : decompressing.Sound d
   pub sizeC : length (t .contexts) ≡ 64
   pub sizeD : length (d .contexts) ≡ 64
   pub held : (i : ℕ) → context.Held (compressing.contextAt t i)
@@ -65,7 +65,7 @@ pub record Rel (n k c j : ℕ) (d : decompressor.Table) (t : compressor.Table) :
 
 ---- The compressor's table after a packet on context i
 
-module _ (t : compressor.Table) (p : List ℕ) (small : AllBytes p) (i : ℕ) (on : On t p i) (sound : sending.Sound t) (size : length (t .contexts) ≡ 64)
+module _ (t : compressor.Table) (p : List ℕ) (small : AllBytes p) (i : ℕ) (on : On t p i) (sound : compressing.Sound t) (size : length (t .contexts) ≡ 64)
     (held : (i : ℕ) → context.Held (compressing.contextAt t i)) where
   abbrev n : ℕ
   n = t .settings .repeats
@@ -98,7 +98,7 @@ module _ (t : compressor.Table) (p : List ℕ) (small : AllBytes p) (i : ℕ) (o
   unfolding headerOf flowOf
   even-port = eq-eqb _ _ (compressible-true p (on .compressible) .even)
 
-  pub on-sound : sending.Sound (compressing.withContext t i (a .context))
+  pub on-sound : compressing.Sound (compressing.withContext t i (a .context))
   on-sound = sending.sound-withContext t i (a .context) sound (on .place .among) (stepOn-sound n h s (fits-header range) even-port context-sound)
 
   pub on-held : (c : ℕ) → context.Held (compressing.contextAt (compressing.withContext t i (a .context)) c)

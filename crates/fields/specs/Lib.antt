@@ -2,5 +2,3 @@ pub mod Fits
 pub mod Place
 pub mod Next
 pub mod NextLaws
-pub mod NextRange
-pub mod FlagsRange

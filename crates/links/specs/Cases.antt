@@ -25,7 +25,7 @@ use Rattle.headers.specs.Cases.{sample}
 use Rattle.fields.specs.declared.place.Place.{Place}
 use Rattle.fields.specs.Fits.{Sendable}
 use Rattle.fields.specs.Place.{numberOf}
-use Rattle.fields.specs.NextRange.{zero-words}
+use Rattle.fields.proofs.NextRange.{zero-words}
 use Rattle.fields.specs.Next.{next, nextByte, nextWord, nextLong, nextDelta16, nextDelta32, nextPayload, readPayload}
 use Rattle.links.specs.Sent.{none8, none16, none32}
 use Rattle.links.specs.Fits.{CuFits, CrFits}

@@ -16,12 +16,11 @@ use Rattle.codes.specs.Reading.{byteAt}
 use Rattle.codes.specs.RoundTrip.{left-first, left-byte, left-after}
 use Rattle.bytes.specs.declared.flags.Flags.{Flags}
 use Rattle.bytes.specs.Flags.{flagsOf}
-use Rattle.bytes.specs.FlagsLaws.{flagsOf-byteOf}
+use Rattle.bytes.specs.FlagsLaws.{byteOf-value, flagsOf-byteOf}
 use Rattle.links.specs.declared.judgement.Judgement.{Judgement}
 use Rattle.links.specs.declared.judgement.Judgement.the-variants.{Good, Cut, Forbidden, NoSuchContext}
 use Rattle.links.specs.Judgement.{firstRefusal}
-use Rattle.fields.specs.FlagsRange.{byteOf-value}
-use Rattle.links.specs.Cs.{State, recordFlags, recordBytes, recordsBytes, csBytes, recordCount, recordAt, recordContext, recordAsks, bitsForbidden, recordWith, recordJudged, recordsJudged, requestJudged}
+use Rattle.links.specs.Cs.{State, recordFlags, recordBytes, recordsBytes, csBytes, recordCount, recordAt, recordContext, recordAsks, bitsForbidden, recordWith, recordJudged, recordsJudged, requestJudged, RequestGood}
 
 ---- recordWith: context number, then bits
 
@@ -54,10 +53,6 @@ module _ (k : ℕ) (s : List ℕ) where
   recordsJudged-none i n h = let e : n - i ≡ 0 = omega arith in rw e
 
 ---- what a good request is
-
-pub record RequestGood (k : ℕ) (s : List ℕ) : Type 0 where
-  pub exact : length s ≡ 2 + 3 * recordCount s
-  pub contexts : (i : ℕ) → i < recordCount s → recordContext s i < k
 
 module _ (k : ℕ) (s : List ℕ) where
   recordJudged-context : (i : ℕ) → recordJudged k s i ≡ Good → recordContext s i < k

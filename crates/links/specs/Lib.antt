@@ -14,5 +14,4 @@ pub mod Cr
 pub mod CrLaws
 pub mod Whole
 pub mod WholeLaws
-pub mod Range
 pub mod Cases

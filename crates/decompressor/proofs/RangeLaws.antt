@@ -11,7 +11,7 @@ use Rattle.packet.specs.declared.header.Header.{Header}
 use Rattle.packet.specs.declared.header.RtpHeader.{RtpHeader}
 use Rattle.packet.specs.declared.parts.Parts.{Parts}
 use Rattle.headers.specs.Range.{HeaderInRange}
-use Rattle.links.specs.Range as links
+use Rattle.links.proofs.Range as links
 use Rattle.context.specs.Sound.{soundList, soundLink, zeros}
 use Rattle.context.specs.Range as context
 use Rattle.context.specs.declared.kept.Link.{Link}

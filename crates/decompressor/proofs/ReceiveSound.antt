@@ -30,7 +30,7 @@ use Rattle.links.specs.Cr.{crOf}
 use Rattle.links.specs.Whole.{wholeOf}
 use Rattle.links.specs.Fh.{fhJudged, fhOf}
 use Rattle.links.specs.FhLaws.{fhOf-context, fhOf-generation, fhOf-link, fhOf-range}
-use Rattle.links.specs.Range as links
+use Rattle.links.proofs.Range as links
 use Rattle.context.specs.Refusal as refusal
 use Rattle.context.specs.declared.refusal.Refusal.{Refusal}
 use Rattle.context.specs.declared.refusal.Refusal.the-variants as refusals
@@ -45,9 +45,9 @@ use Rattle.context.specs.declared.decompressor.Outcome.the-variants.{Accepted, 
 use Rattle.context.specs.declared.decompressor.Applied.{Applied}
 use Rattle.decompressor.specs.declared.table.Table.{Table}
 use Rattle.decompressor.specs.Answer.{Result, accepted, refused, delivered}
-use Rattle.decompressor.specs.Table.{noContext, soundOf, contextAt, withContext}
-use Rattle.decompressor.specs.TableLaws.{Sound, soundOf-true, sound-contextAt, sound-withContext}
-use Rattle.decompressor.specs.RangeLaws.{header-fits, parts-sound, whole-sound, link-sound}
+use Rattle.decompressor.specs.Table.{noContext, soundOf, contextAt, withContext, Sound}
+use Rattle.decompressor.specs.TableLaws.{soundOf-true, sound-contextAt, sound-withContext}
+use Rattle.decompressor.proofs.RangeLaws.{header-fits, parts-sound, whole-sound, link-sound}
 use Rattle.decompressor.specs.Receive.{packetOf, receivePlain, fullTable, receiveFullBy, receiveFull, rebuildTo, settleBy, settle, settleRead, receiveParts, receiveWhole, OldForm, oldForm, receiveUdp, receiveRtp, receiveOn, receiveCompressed, receiveKind, lengthAllowed, receiveBy, receiveOf}
 
 -- the context number that a link packet carries; a plain one carries none

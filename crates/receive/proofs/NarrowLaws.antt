@@ -7,7 +7,7 @@ use native.Mathlib.Omega.{arith}
 use Rattle.packet.specs.declared.header.RtpHeader.{RtpHeader}
 use Rattle.packet.specs.declared.parts.Parts.{Parts}
 use Rattle.headers.specs.Range.{Narrow}
-use Rattle.links.specs.Range as links
+use Rattle.links.proofs.Range as links
 use Rattle.context.specs.Field.{gap}
 use Rattle.context.specs.Sound.{soundDecompressor}
 use Rattle.context.specs.Decompressor.{outcomeOf, advanced, advancedWhole, settled, applied, appliedWhole, rebuilt}
@@ -18,7 +18,7 @@ use Rattle.context.specs.declared.decompressor.Status.the-variants.{Live}
 use Rattle.context.specs.declared.decompressor.DecompressorContext.{DecompressorContext}
 use Rattle.context.specs.declared.decompressor.Outcome.{Outcome}
 use Rattle.context.specs.declared.decompressor.Outcome.the-variants.{Accepted, Refused}
-use Rattle.decompressor.specs.RangeLaws.{parts-sound, whole-sound}
+use Rattle.decompressor.proofs.RangeLaws.{parts-sound, whole-sound}
 
 ---- rebuilt
 
