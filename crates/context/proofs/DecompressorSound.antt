@@ -4,14 +4,16 @@
 use Prim.Native.Nat.{ℕ, _≤_}
 use mathlib.Core.Path.{_≡_, refl, sym, ap, _∙_}
 use mathlib.Core.Bool.{Bool, true, false, cond, not, _&&_, false≢true, and-eq-true-iff}
+use native.Mathlib.Omega.{arith}
 use Rattle.codes.specs.Difference.{hasCode}
+use Rattle.packet.specs.Ranges.{HeaderInRange, HeaderSound, PartsSound}
+use Rattle.packet.specs.RangesLaws.{range-sound}
 use Rattle.packet.specs.declared.csrc.Csrc.{Csrc}
 use Rattle.packet.specs.declared.header.Header.{Header}
 use Rattle.packet.specs.declared.header.RtpHeader.{RtpHeader}
 use Rattle.packet.specs.declared.parts.Parts.{Parts}
 use Rattle.context.specs.Field.{gap}
 use Rattle.context.specs.Decompressor.{filled, outcomeOf, ipAfter, rtpAfter, deltasHeld, advanced, advancedWhole, broke, settled, applied, appliedWhole}
-use Rattle.context.specs.Range.{HeaderFits, PartsSound, WholeSound}
 use Rattle.context.specs.Sound.{soundList, soundLink, filledSound, unfilledSound, soundDecompressorBy, soundDecompressor, emptyDecompressor, zeroList}
 use Rattle.context.specs.declared.kept.Link.{Link}
 use Rattle.context.specs.declared.decompressor.Status.{Status}
@@ -19,9 +21,9 @@ use Rattle.context.specs.declared.decompressor.Status.the-variants.{Empt
 use Rattle.context.specs.declared.decompressor.DecompressorContext.{DecompressorContext}
 use Rattle.context.specs.declared.decompressor.Outcome.{Outcome}
 use Rattle.context.specs.declared.decompressor.Outcome.the-variants.{Accepted, Refused}
-use Rattle.context.proofs.Tests.{cond-when}
+use Rattle.context.proofs.Tests.{cond-both}
 use Rattle.context.proofs.Gap.{outcome-live}
-use Rattle.context.proofs.SoundFacts.{soundLink-bounds, FilledBounds, filledSound-bounds, bounds-filledSound, hasCode-zero}
+use Rattle.context.proofs.SoundFacts.{soundList-made, soundLink-bounds, FilledBounds, filledSound-bounds, bounds-filledSound, hasCode-zero}
 
 ---- A live context is sound where it is filled and its fields are in range
 
@@ -47,12 +49,12 @@ pub sound-none : soundDecompressor emptyDecompressor ≡ true
 unfolding soundDecompressor soundDecompressorBy emptyDecompressor unfilledSound zeroList
 sound-none = refl
 
-pub sound-filled : (h : Header) (l : Link) → HeaderFits h → soundLink l ≡ true → soundDecompressor (filled h l) ≡ true
+pub sound-filled : (h : Header) (l : Link) → HeaderInRange h → soundLink l ≡ true → soundDecompressor (filled h l) ≡ true
 unfolding filled
 sound-filled h l f s = bounds-soundDecompressor (filled h l) refl refl (record {
-  flags = f .flags;
-  payload = f .payload;
-  list = f .list;
+  flags = omega (arith, f .ip .flags);
+  payload = omega (arith, f .rtp .payload);
+  list = soundList-made (h .csrc) (range-sound (f .csrc));
   coded = hasCode-zero;
   link = soundLink-bounds l s;
 })
@@ -65,22 +67,22 @@ sound-advanced g q c p small a u s =
     let b = soundDecompressor-bounds c u s in
     bounds-soundDecompressor (advanced g q c p) u (live-filled c u s .0) (record {
       flags = b .flags;
-      payload = cond-when (λ (x : ℕ). x ≤ 127) (p .payload .sent) _ _ (a .payload) (b .payload);
-      list = cond-when (λ (x : Csrc). soundList x ≡ true) (p .listed) _ _ (a .list) (b .list);
-      coded = cond-when (λ (x : ℕ). hasCode 32 x ≡ true) (p .dts .sent) _ _ (a .dts) (b .coded);
+      payload = cond-both (λ (x : ℕ). x ≤ 127) (p .payload .sent) _ _ (omega (arith, a .payload)) (b .payload);
+      list = cond-both (λ (x : Csrc). soundList x ≡ true) (p .listed) _ _ (soundList-made (p .csrc) (a .list)) (b .list);
+      coded = cond-both (λ (x : ℕ). hasCode 32 x ≡ true) (p .dts .sent) _ _ (a .coded) (b .coded);
       link = record { sequence = small; generation = b .link .generation };
     })
 
-pub sound-whole : (g q : ℕ) (c : DecompressorContext) (p : Parts) (w : RtpHeader) → q ≤ 15 → PartsSound p → WholeSound w → c .status ≡ Live → soundDecompressor c ≡ true →
+pub sound-whole : (g q : ℕ) (c : DecompressorContext) (p : Parts) (w : RtpHeader) → q ≤ 15 → PartsSound p → HeaderSound w → c .status ≡ Live → soundDecompressor c ≡ true →
     soundDecompressor (advancedWhole g q c p w) ≡ true
 unfolding advancedWhole ipAfter deltasHeld
 sound-whole g q c p w small a t u s =
     let b = soundDecompressor-bounds c u s in
     bounds-soundDecompressor (advancedWhole g q c p w) u (live-filled c u s .0) (record {
       flags = b .flags;
-      payload = t .payload;
-      list = t .list;
-      coded = cond-when (λ (x : ℕ). hasCode 32 x ≡ true) (p .dts .sent) _ _ (a .dts) (b .coded);
+      payload = omega (arith, t .payload);
+      list = soundList-made (w .csrc) (t .list);
+      coded = cond-both (λ (x : ℕ). hasCode 32 x ≡ true) (p .dts .sent) _ _ (a .coded) (b .coded);
       link = record { sequence = small; generation = b .link .generation };
     })
 
@@ -116,7 +118,7 @@ unfolding applied
 sound-applied n q c p small a s = sound-settled (outcomeOf n q c) c (advanced (gap (c .link .sequence) q) q c p)
     (λ e. sound-advanced (gap (c .link .sequence) q) q c p small a (outcome-live n q c e) s) s
 
-pub sound-appliedWhole : (n q : ℕ) (c : DecompressorContext) (p : Parts) (w : RtpHeader) → q ≤ 15 → PartsSound p → WholeSound w → soundDecompressor c ≡ true →
+pub sound-appliedWhole : (n q : ℕ) (c : DecompressorContext) (p : Parts) (w : RtpHeader) → q ≤ 15 → PartsSound p → HeaderSound w → soundDecompressor c ≡ true →
     soundDecompressor (appliedWhole n q c p w .context) ≡ true
 unfolding appliedWhole
 sound-appliedWhole n q c p w small a t s = sound-settled (outcomeOf n q c) c (advancedWhole (gap (c .link .sequence) q) q c p w)

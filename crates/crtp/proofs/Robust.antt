@@ -15,6 +15,7 @@ use Rattle.codes.specs.Bytes.{AllBytes}
 use Rattle.settings.specs.Settings as settings
 use Rattle.settings.specs.declared.Settings.{Settings}
 use Rattle.settings.specs.SettingsLaws.{range-repeats, range-most}
+use Rattle.packet.specs.Ranges.{HeaderInRange}
 use Rattle.headers.specs.Header.{headerOf}
 use Rattle.headers.specs.HeaderLaws.{headerOf-range}
 use Rattle.links.specs.FhLaws.{FhFits}
@@ -49,7 +50,6 @@ use Rattle.calls.specs.Calls as calls
 use Rattle.calls.proofs.Faithful.{Laws, ready, faithful}
 use Rattle.crtp.specs.Robust.{Bytes, Rebuilt, Call, World, Opened, Premises, Robust}
 use Rattle.crtp.proofs.Lists.{Frame, frameOf, frameContext, ends, callOf, start, start-lawful, start-bounded, exact-faithful}
-use Rattle.crtp.proofs.Ranges.{fits-header}
 use Rattle.crtp.proofs.Steps.{stepOn-lost, stepOn-arrives, stepOn-udp, stepOn-rtp, stepOn-count}
 use Rattle.crtp.proofs.Arrivals.{receive-sent}
 use Rattle.crtp.proofs.Requests.{request-asks, asks-keeps-sound, Asks}
@@ -138,8 +138,8 @@ module _ (n k : ℕ) where
       few-contexts : t .settings .contexts ≤ 64
       few-contexts = range-most (t .settings .repeats) (t .settings .contexts) (r .soundC .settings)
 
-      fits : context.HeaderFits (headerOf (p .list))
-      fits = fits-header (headerOf-range (p .small))
+      fits : HeaderInRange (headerOf (p .list))
+      fits = headerOf-range (p .small)
 
       here-lost : suc j ≤ n → Related n (suc j) (decompressing.contextAt d c) (stepAt t (p .list) c .context)
       here-lost few =

@@ -1,3 +1,2 @@
 -- Iarwennol. Laws that only proofs cite, of this crate and of those above it.
 pub mod ReceiveSound
-pub mod RangeLaws

@@ -17,6 +17,7 @@ use Rattle.fields.specs.declared.place.Place.{Place}
 use Rattle.fields.specs.declared.place.Outcome as fields
 use Rattle.fields.specs.declared.place.Outcome.the-variants as reading
 use Rattle.fields.specs.Place as place
+use Rattle.packet.specs.Ranges.{HeaderSound, PartsSound}
 use Rattle.headers.specs.Header.{headerSize}
 use Rattle.links.specs.declared.head.Head.{Head}
 use Rattle.links.specs.declared.head.ReadParts.{ReadParts}
@@ -36,6 +37,7 @@ use Rattle.context.specs.declared.refusal.Refusal.{Refusal}
 use Rattle.context.specs.declared.refusal.Refusal.the-variants as refusals
 use Rattle.context.specs.Sound.{soundDecompressor}
 use Rattle.context.specs.Decompressor.{filled, broke, applied, appliedWhole, rebuilt}
+use Rattle.context.proofs.SoundFacts.{bounds-soundLink}
 use Rattle.context.proofs.DecompressorSound.{sound-filled, sound-broke, sound-applied, sound-appliedWhole}
 use Rattle.context.specs.declared.decompressor.Status.{Status}
 use Rattle.context.specs.declared.decompressor.Status.the-variants.{Empty, Live, Broken}
@@ -47,7 +49,6 @@ use Rattle.decompressor.specs.declared.table.Table.{Table}
 use Rattle.decompressor.specs.Answer.{Result, accepted, refused, delivered}
 use Rattle.decompressor.specs.Table.{noContext, soundOf, contextAt, withContext, Sound}
 use Rattle.decompressor.specs.TableLaws.{soundOf-true, sound-contextAt, sound-withContext}
-use Rattle.decompressor.proofs.RangeLaws.{header-fits, parts-sound, whole-sound, link-sound}
 use Rattle.decompressor.specs.Receive.{packetOf, receivePlain, fullTable, receiveFullBy, receiveFull, rebuildTo, settleBy, settle, settleRead, receiveParts, receiveWhole, OldForm, oldForm, receiveUdp, receiveRtp, receiveOn, receiveCompressed, receiveKind, lengthAllowed, receiveBy, receiveOf}
 
 -- the context number that a link packet carries; a plain one carries none
@@ -127,8 +128,8 @@ module _ (t : Table) (s : List ℕ) (a : AllBytes s) where
       one (filled (fhOf s .header) (record { sequence = fhOf s .link; generation = fhOf s .generation }))
       (fhOf-context s (t .settings .contexts) e)
       (sound-filled (fhOf s .header) (record { sequence = fhOf s .link; generation = fhOf s .generation })
-      (header-fits (fhOf s .header) (fhOf-range s a))
-      (link-sound (fhOf s .link) (fhOf s .generation) (fhOf-link s) (fhOf-generation s)))
+      (fhOf-range s a)
+      (bounds-soundLink _ (record { sequence = omega (arith, fhOf-link s); generation = omega (arith, fhOf-generation s) })))
 
   full-way : (j : Judgement) → fhJudged (t .settings .contexts) s ≡ j → Way t (fhOf s .context) (λ output. receiveFullBy j t (fhOf s) s output)
   full-way Good e = gives (fullTable t (fhOf s)) (packetOf (fhOf s .header) (drop (fhOf s .start) s)) (full-leaves e) (λ output. refl)
@@ -177,17 +178,17 @@ module _ (t : Table) (i : ℕ) (sound : Sound t) (among : i < t .settings .conte
   settleRead-way reading.Forbidden at b sent s e = refuses t 5 (omega arith) same (λ output. refl)
   settleRead-way reading.Unused at b sent s e = refuses t 7 (omega arith) same (λ output. refl)
 
-  receiveParts-way : (r : ReadParts) (q : ℕ) (s : List ℕ) → q < 16 → links.PartsSound (r .parts) → Way t i (λ output. receiveParts r t i q s output)
+  receiveParts-way : (r : ReadParts) (q : ℕ) (s : List ℕ) → q < 16 → PartsSound (r .parts) → Way t i (λ output. receiveParts r t i q s output)
   receiveParts-way r q s small p =
       settleRead-way (r .place .outcome) (r .place .cursor .at) (applied (t .settings .repeats) q (contextAt t i) (r .parts)) (r .parts .checksum) s
-      (sound-applied (t .settings .repeats) q (contextAt t i) (r .parts) (omega arith) (parts-sound (r .parts) p) (sound-contextAt t i sound))
+      (sound-applied (t .settings .repeats) q (contextAt t i) (r .parts) (omega arith) p (sound-contextAt t i sound))
 
-  receiveWhole-way : (r : ReadWhole) (q : ℕ) (s : List ℕ) → q < 16 → links.PartsSound (r .parts) → links.HeaderSound (r .header)
+  receiveWhole-way : (r : ReadWhole) (q : ℕ) (s : List ℕ) → q < 16 → PartsSound (r .parts) → HeaderSound (r .header)
       → Way t i (λ output. receiveWhole r t i q s output)
   receiveWhole-way r q s small p w =
       settleRead-way (r .place .outcome) (r .place .cursor .at) (appliedWhole (t .settings .repeats) q (contextAt t i) (r .parts) (r .header)) (r .parts .checksum) s
       (sound-appliedWhole (t .settings .repeats) q (contextAt t i) (r .parts) (r .header) (omega arith)
-      (parts-sound (r .parts) p) (whole-sound (r .header) w) (sound-contextAt t i sound))
+      p w (sound-contextAt t i sound))
 
   oldForm-way : (h : Head) (s : List ℕ) → h .flags .low < 16 → Way t i (λ output. oldForm t i h s output)
   unfolding oldForm

@@ -14,21 +14,20 @@ use Rattle.codes.specs.Difference.{difference, hasCode}
 use Rattle.codes.specs.Reading.{readBy, readByte, readWord, readLong}
 use Rattle.codes.specs.Cases as codes
 use Rattle.packet.specs.Csrc.{noList}
+use Rattle.packet.specs.Ranges.{Sendable}
+use Rattle.packet.specs.RangesLaws.{range-noList}
 use Rattle.packet.specs.declared.parts.Parts.{Parts}
 use Rattle.bytes.specs.Sum.{plus}
 use Rattle.headers.specs.Header.{headerOf, flowOf, ipOf, rtpAt, headerBytes, ipFront, ipBack, udpBytes, rtpFixed}
 use Rattle.headers.specs.HeaderLaws.{headerOf-range}
 use Rattle.headers.specs.Checksum.{ipChecksum, ipChecksumOf}
 use Rattle.headers.specs.Compressible.{fixedForm}
-use Rattle.headers.specs.Range.{ListInRange}
 use Rattle.headers.specs.Cases.{sample}
 use Rattle.fields.specs.declared.place.Place.{Place}
-use Rattle.fields.specs.Fits.{Sendable}
 use Rattle.fields.specs.Place.{numberOf}
-use Rattle.fields.proofs.NextRange.{zero-words}
 use Rattle.fields.specs.Next.{next, nextByte, nextWord, nextLong, nextDelta16, nextDelta32, nextPayload, readPayload}
 use Rattle.links.specs.Sent.{none8, none16, none32}
-use Rattle.links.specs.Fits.{CuFits, CrFits}
+use Rattle.links.specs.FitsLaws.{CuFits, CrFits}
 use Rattle.links.specs.Judgement.{judgementNumber}
 use Rattle.links.specs.Head.{headOf}
 use Rattle.links.specs.Cu.{cuBytes, changesOf, valuesOf, cuRest, cuOf}
@@ -131,9 +130,6 @@ cases-hold = refl
 
 ---- the round trips speak of the cases
 
-no-list : ListInRange noList
-no-list = record { count = omega arith; size = refl; each = zero-words 15; blank = refl }
-
 unsent : (w : ℕ) → 0 < 2 ^ w → Sendable w false 0
 unsent w h = record { fits = h; blank = refl }
 
@@ -149,7 +145,7 @@ quiet-fits = record {
     dsn = unsent 16 (omega arith);
     dts = unsent 32 (omega arith);
     coded = λ e. absurd (false≢true e);
-    list = no-list;
+    list = range-noList;
   };
   small = omega arith;
   id = refl;
@@ -173,7 +169,7 @@ jumped-fits = record {
     dsn = unsent 16 (omega arith);
     dts = record { fits = omega arith; blank = refl };
     coded = λ e. refl;
-    list = no-list;
+    list = range-noList;
   };
   small = omega arith;
   dsn = refl;

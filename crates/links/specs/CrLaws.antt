@@ -8,6 +8,7 @@ use native.Mathlib.Omega.{arith}
 use lib.ListN.{length, take, drop, length-append}
 use Rattle.codes.specs.Bytes.{AllBytes, none, more, bigEndian}
 use Rattle.codes.specs.BytesLaws.{allBytes-append, allBytes-bigEndian}
+use Rattle.packet.specs.Ranges.{PartsFit}
 use Rattle.packet.specs.declared.parts.Parts.{Parts}
 use Rattle.bytes.specs.declared.flags.Flags.{Flags}
 use Rattle.bytes.specs.Flags.{byteOf}
@@ -22,7 +23,7 @@ use Rattle.links.specs.declared.cr.Second.{Second}
 use Rattle.links.specs.declared.cr.Deltas.{Deltas}
 use Rattle.links.specs.Sent.{delta16, delta32, none8, none16, none32}
 use Rattle.links.specs.SentLaws.{length-four, append-four, unsent8, unsent16, unsent32, allBytes-delta16, allBytes-delta32}
-use Rattle.links.specs.Fits.{PartsFit, CrFits}
+use Rattle.links.specs.FitsLaws.{CrFits}
 use Rattle.links.specs.Head.{contextOf, headOf}
 use Rattle.links.specs.HeadLaws.{headOf-written}
 use Rattle.links.specs.Cr.{crOwn, crFirst, crFlags, deltaBytes, crBytes, allFour, secondWith, secondOf, deltasOf, crRest, crOf}

@@ -10,11 +10,11 @@ use lib.Dec.{leb, ltb}
 use lib.ListN.{length, length-append}
 use Rattle.codes.specs.Bytes.{AllBytes}
 use Rattle.codes.specs.Reading.{byteAt, wordAt}
+use Rattle.packet.specs.Ranges.{HeaderInRange}
 use Rattle.packet.specs.declared.header.Header.{Header}
 use Rattle.headers.specs.Header.{countAt, rtpAt, headerOf, ipFront, ipBack, udpBytes, headerBytes, headerSize}
 use Rattle.headers.specs.Checksum.{ipChecksumOf, ipChecksum}
 use Rattle.headers.specs.Compressible.{fixedForm}
-use Rattle.headers.specs.Range.{HeaderInRange}
 use Rattle.headers.specs.HeaderLaws.{countAt-headerBytes, headerOf-headerBytes, headerOf-range, udpLength-headerBytes, ipChecksum-headerBytes, fixedForm-headerBytes, length-headerBytes, allBytes-headerBytes}
 use Rattle.headers.specs.ChecksumLaws.{ipChecksumOf-headerBytes}
 use Rattle.links.specs.declared.judgement.Judgement.the-variants.{Good, Cut, Forbidden, NoSuchContext}

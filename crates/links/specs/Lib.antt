@@ -5,7 +5,7 @@ pub mod Cs
 pub mod CsLaws
 pub mod Sent
 pub mod SentLaws
-pub mod Fits
+pub mod FitsLaws
 pub mod Head
 pub mod HeadLaws
 pub mod Cu

@@ -4,10 +4,9 @@ use Prim.Native.Nat.{ℕ, _≤_, _<_}
 use mathlib.Core.Path.{_≡_, refl}
 use mathlib.Core.Bool.{true}
 use native.Mathlib.Omega.{arith}
+use Rattle.packet.specs.Ranges.{Narrow, HeaderSound, PartsSound}
 use Rattle.packet.specs.declared.header.RtpHeader.{RtpHeader}
 use Rattle.packet.specs.declared.parts.Parts.{Parts}
-use Rattle.headers.specs.Range.{Narrow}
-use Rattle.links.proofs.Range as links
 use Rattle.context.specs.Field.{gap}
 use Rattle.context.specs.Sound.{soundDecompressor}
 use Rattle.context.specs.Decompressor.{outcomeOf, advanced, advancedWhole, settled, applied, appliedWhole, rebuilt}
@@ -18,7 +17,6 @@ use Rattle.context.specs.declared.decompressor.Status.the-variants.{Live}
 use Rattle.context.specs.declared.decompressor.DecompressorContext.{DecompressorContext}
 use Rattle.context.specs.declared.decompressor.Outcome.{Outcome}
 use Rattle.context.specs.declared.decompressor.Outcome.the-variants.{Accepted, Refused}
-use Rattle.decompressor.proofs.RangeLaws.{parts-sound, whole-sound}
 
 ---- rebuilt
 
@@ -44,12 +42,12 @@ module _ (n q : ℕ) (c : DecompressorContext) (p : Parts) where
   unfolding appliedWhole advancedWhole
   whole-live w e = settled-live (outcomeOf n q c) c (advancedWhole (gap (c .link .sequence) q) q c p w) (outcome-live n q c) e
 
-  module _ (sent : ℕ) (small : q < 16) (s : soundDecompressor c ≡ true) (parts : links.PartsSound p) where
+  module _ (sent : ℕ) (small : q < 16) (s : soundDecompressor c ≡ true) (parts : PartsSound p) where
     pub applied-narrow : applied n q c p .outcome ≡ Accepted → Narrow (rebuilt (applied n q c p .context) sent)
-    applied-narrow e = rebuilt-narrow (applied n q c p .context) sent (applied-live e) (sound-applied n q c p (omega arith) (parts-sound p parts) s)
+    applied-narrow e = rebuilt-narrow (applied n q c p .context) sent (applied-live e) (sound-applied n q c p (omega arith) parts s)
 
-    pub whole-narrow : (w : RtpHeader) → links.HeaderSound w → appliedWhole n q c p w .outcome ≡ Accepted
+    pub whole-narrow : (w : RtpHeader) → HeaderSound w → appliedWhole n q c p w .outcome ≡ Accepted
         → Narrow (rebuilt (appliedWhole n q c p w .context) sent)
     whole-narrow w h e =
         rebuilt-narrow (appliedWhole n q c p w .context) sent (whole-live w e)
-        (sound-appliedWhole n q c p w (omega arith) (parts-sound p parts) (whole-sound w h) s)
+        (sound-appliedWhole n q c p w (omega arith) parts h s)

@@ -2,7 +2,7 @@ ghost use mathlib.Core.Path.{_≡_};
 ghost use mathlib.Core.Bool.{true};
 ghost use Prim.Native.Nat.{_≤_, _<_};
 ghost use lib.ListN.{length};
-ghost use Rattle.links.proofs.Range.{PartsSound};
+ghost use Rattle.packet.specs.Ranges.{PartsSound};
 ghost use Rattle.context.specs.Sound.{soundDecompressor};
 ghost use Rattle.decompressor.specs.Answer.{said};
 ghost use Rattle.decompressor.specs.Table.{Sound};
