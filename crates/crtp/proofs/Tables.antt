@@ -13,6 +13,7 @@ use lib.Seq.{getD-set-same, getD-set-other, take-append-seam}
 use Rattle.codes.specs.Bytes.{AllBytes}
 use Rattle.codes.specs.BytesLaws.{allBytes-append}
 use Rattle.codes.specs.Reading.{byteAt}
+use Rattle.codes.proofs.BytesRead.{allBytes-drop}
 use Rattle.packet.specs.Ranges.{HeaderInRange}
 use Rattle.packet.specs.declared.header.Header.{Header}
 use Rattle.settings.specs.Settings as settings
@@ -21,7 +22,6 @@ use Rattle.settings.specs.declared.Settings.{Settings}
 use Rattle.headers.specs.Header.{headerOf, flowOf, headerSize}
 use Rattle.headers.specs.CompressibleLaws.{compressible-true}
 use Rattle.headers.specs.HeaderLaws.{headerOf-range}
-use Rattle.headers.specs.BytesLaws.{allBytes-drop}
 use Rattle.links.specs.Fh.{fhBytes, fhOf}
 use Rattle.links.specs.FhLaws.{FhFits, allBytes-fhBytes, fhOf-fhBytes}
 use Rattle.links.specs.declared.fh.FullHeader as fh

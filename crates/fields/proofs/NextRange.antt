@@ -15,7 +15,7 @@ use Rattle.codes.specs.Code.{Row, rows, among}
 use Rattle.codes.specs.Difference.{hasCode}
 use Rattle.codes.specs.Reading.{Reading, accepted, refused, has, byteAt, wordAt, longAt, tripleAt, fieldAt, readByte, readWord, readLong, readDelta, readBy, valueIn, codeAt}
 use Rattle.codes.specs.RoundTrip.{left-after}
-use Rattle.headers.specs.BytesLaws.{allBytes-byteAt}
+use Rattle.codes.proofs.BytesRead.{allBytes-byteAt}
 use Rattle.packet.specs.Ranges.{ListSound, ListInRange}
 use Rattle.packet.specs.RangesLaws.{zero-words}
 use Rattle.fields.specs.declared.place.Place.{Place}

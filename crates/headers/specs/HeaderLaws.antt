@@ -10,6 +10,7 @@ use lib.ListN.{length, take, drop, replicate}
 use Rattle.codes.specs.Bytes.{AllBytes, more, bigEndian}
 use Rattle.codes.specs.BytesLaws.{allBytes-append, allBytes-bigEndian}
 use Rattle.codes.specs.Reading.{byteAt, wordAt}
+use Rattle.codes.proofs.BytesRead.{allBytes-byteAt, wordAt-lt, longAt-lt, wordAt-bigEndian, longAt-bigEndian, bigEndian-wordAt, bigEndian-longAt, places, places-drop}
 use Rattle.packet.specs.Ranges.{HeaderInRange, FlowInRange, IpInRange, RtpInRange, ListInRange, Narrow}
 use Rattle.packet.specs.declared.header.Header.{Header}
 use Rattle.bytes.specs.Flags.{bitAt, digit, byteOf, flagsOf}
@@ -18,7 +19,6 @@ use Rattle.bytes.specs.Put.{listBytes}
 use Rattle.bytes.specs.PutLaws.{allBytes-words}
 use Rattle.headers.specs.Header.{countAt, rtpAt, flowOf, ipOf, headerOf, ipFront, ipBack, udpBytes, rtpFirst, rtpFixed, headerBytes, headerSize, longs}
 use Rattle.headers.specs.Compressible.{fixedForm}
-use Rattle.headers.specs.BytesLaws.{allBytes-byteAt, wordAt-lt, longAt-lt, wordAt-bigEndian, longAt-bigEndian, bigEndian-wordAt, bigEndian-longAt, places, places-drop}
 use Rattle.headers.specs.ListLaws.{listAt-range, longs-listBytes, listBytes-listAt, length-listBytes}
 use Rattle.headers.specs.ChecksumLaws.{flags-word}
 use Rattle.headers.specs.CompressibleLaws.{FixedForm, fixedForm-true, fixedForm-holds}

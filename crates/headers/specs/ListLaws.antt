@@ -10,13 +10,13 @@ use lib.ListN.{length, getD, set, take, drop, replicate, take-append-drop, lengt
 use lib.Seq.{append-snoc, length-take-le, getD-drop, drop-drop, set-at, take-at, drop-at}
 use Rattle.codes.specs.Bytes.{AllBytes, bigEndian}
 use Rattle.codes.specs.Reading.{byteAt, longAt}
+use Rattle.codes.proofs.BytesRead.{allBytes-drop, longAt-lt, longAt-bigEndian, bigEndian-longAt, places-drop}
 use Rattle.packet.specs.Ranges.{ListInRange}
 use Rattle.packet.specs.RangesLaws.{zero-words}
 use Rattle.packet.specs.declared.csrc.Csrc.{Csrc}
 use Rattle.bytes.specs.Put.{words, listBytes}
 use Rattle.bytes.specs.PutLaws.{length-words}
 use Rattle.headers.specs.Header.{longs, listAt}
-use Rattle.headers.specs.BytesLaws.{allBytes-drop, longAt-lt, longAt-bigEndian, bigEndian-longAt, places-drop}
 
 ---- longs
 

@@ -2,13 +2,12 @@
 -- Each layout is held against its bytes in both directions; the parts below are shown to fit, so that the round trips speak of them.
 use Prim.Native.Nat.{ℕ, _+_, _^_, _<_}
 use mathlib.Core.Path.{_≡_, refl}
-use mathlib.Core.Bool.{Bool, true, false, _&&_, false≢true, and-eq-true-iff}
+use mathlib.Core.Bool.{Bool, true, false, false≢true}
 use mathlib.Core.List.{List, [], _∷_, _++_, map}
 use native.Mathlib.Omega.{arith}
-use borrow.Author.Tests.{ltb-true}
-use lib.Dec.{ltb}
 use lib.ListN.{length, take, drop}
-use Rattle.codes.specs.Bytes.{AllBytes, none, more}
+use Rattle.codes.specs.Bytes.{areBytes}
+use Rattle.codes.specs.BytesLaws.{allBytes-areBytes}
 use Rattle.codes.specs.Code.{codeOf}
 use Rattle.codes.specs.Difference.{difference, hasCode}
 use Rattle.codes.specs.Reading.{readBy, readByte, readWord, readLong}
@@ -178,17 +177,6 @@ jumped-fits = record {
 
 pub third-fits : StatesFit 64 (third ∷ [])
 third-fits = more-fit {r = third} (record { context = omega arith; link = omega arith; generation = omega arith }) none-fit
-
--- a list that passes a test consists of bytes
-abbrev areBytes : List ℕ → Bool
-areBytes [] = true
-areBytes (b ∷ bs) = ltb b 256 && areBytes bs
-
-allBytes-areBytes : (l : List ℕ) → areBytes l ≡ true → AllBytes l
-allBytes-areBytes [] e = none
-allBytes-areBytes (b ∷ bs) e =
-    let t = and-eq-true-iff (ltb b 256) (areBytes bs) .0 e in
-    more (ltb-true b 256 (t .0)) (allBytes-areBytes bs (t .1))
 
 sample-bytes : areBytes sample ≡ true
 unfolding sample

@@ -16,7 +16,7 @@ use Rattle.headers.specs.Header.{countAt, rtpAt, headerOf, ipFront, ipBack, udp
 use Rattle.headers.specs.Checksum.{ipChecksumOf, ipChecksum}
 use Rattle.headers.specs.Compressible.{fixedForm}
 use Rattle.headers.specs.HeaderLaws.{countAt-headerBytes, headerOf-headerBytes, headerOf-range, udpLength-headerBytes, ipChecksum-headerBytes, fixedForm-headerBytes, length-headerBytes, allBytes-headerBytes}
-use Rattle.headers.specs.ChecksumLaws.{ipChecksumOf-headerBytes}
+use Rattle.headers.specs.ChecksumLaws.{ipChecksum-lt, ipChecksumOf-headerBytes}
 use Rattle.links.specs.declared.judgement.Judgement.the-variants.{Good, Cut, Forbidden, NoSuchContext}
 use Rattle.links.specs.Fh.{ipField, fhBytes, fieldsForm, checksumRight, fhJudged, fhOf}
 
@@ -85,10 +85,6 @@ pub record FhFits (k context generation link : ℕ) (h : Header) : Type 0 where
   pub young : generation < 64
   pub small : link < 16
   pub range : HeaderInRange h
-
-pub ipChecksum-lt : (h : Header) (total : ℕ) → ipChecksum h total < 2 ^ 16
-unfolding ipChecksum
-ipChecksum-lt h total = omega arith
 
 module _ (k context generation link total : ℕ) (h : Header) (fits : FhFits k context generation link h) where
   pub length-fhBytes : length (fhBytes context generation link total h) ≡ headerSize h
