@@ -17,7 +17,8 @@ use Rattle.context.specs.Sound.{soundCompressor, emptyCompressor}
 use Rattle.context.proofs.CompressorSound.{sound-empty}
 use Rattle.context.specs.declared.compressor.CompressorContext.{CompressorContext}
 use Rattle.compressor.specs.declared.table.Table.{Table}
-use Rattle.compressor.specs.Table.{noContext, contextAt, withContext, isEmpty, soundOf, Sound, emptyTable, unopened, openOf, openBy}
+use Rattle.compressor.specs.Table.{noContext, contextAt, withContext, isEmpty, soundOf, Sound}
+use Rattle.compressor.specs.Table.{emptyTable, unopened, openOf, openBy}
 
 ---- soundOf
 

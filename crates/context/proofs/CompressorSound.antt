@@ -23,7 +23,8 @@ use Rattle.context.proofs.Tests.{cond-when, cond-both, adoptsTimestamp-
 use Rattle.context.proofs.Ready.{Kept, started-kept}
 use Rattle.context.proofs.Lost.{step-context}
 use Rattle.context.proofs.Arrives.{step-status}
-use Rattle.context.proofs.SoundFacts.{soundList-made, LinkBounds, soundLink-bounds, DueBounds, UsedBounds, usedSound-bounds, bounds-usedSound, hasCode-zero}
+use Rattle.context.proofs.SoundFacts.{hasCode-zero, soundList-made, LinkBounds, soundLink-bounds}
+use Rattle.context.proofs.SoundFacts.{DueBounds, UsedBounds, usedSound-bounds, bounds-usedSound}
 
 ---- counted, dueAfter
 
@@ -51,7 +52,8 @@ due-bounds n d j b = record {
 
 ---- The bounds of a context in use, step by step
 
-moved-bounds : (n : ℕ) (h : Header) (c : CompressorContext) → HeaderInRange h → UsedBounds n c → UsedBounds n (moved n h c (judged h c))
+moved-bounds : (n : ℕ) (h : Header) (c : CompressorContext) → HeaderInRange h → UsedBounds n c
+    → UsedBounds n (moved n h c (judged h c))
 unfolding moved deltasAfter judged nextSequence
 moved-bounds n h c f b = record {
   port = b .port;
@@ -97,7 +99,8 @@ ready-bounds n h c b = reset-bounds n (begun n h c) (begun-bounds n h c b)
 step-bounds : (n : ℕ) (h : Header) (c : CompressorContext) → HeaderInRange h → UsedBounds n c → UsedBounds n (stepOf n h c .context)
 step-bounds n h c f b = rw (step-context n h c) (moved-bounds n h (reset (begun n h c)) f (ready-bounds n h c b))
 
-first-bounds : (n : ℕ) (h : Header) (l : Link) → HeaderInRange h → eqb (h .flow .dport % 2) 0 ≡ true → LinkBounds l → UsedBounds n (first n h l)
+first-bounds : (n : ℕ) (h : Header) (l : Link) → HeaderInRange h → eqb (h .flow .dport % 2) 0 ≡ true → LinkBounds l
+    → UsedBounds n (first n h l)
 unfolding first nextSequence
 first-bounds n h l f even b = record {
   port = even;
@@ -133,10 +136,12 @@ first-live : (n : ℕ) (h : Header) (l : Link) → first n h l .status ≡ Live
 unfolding first
 first-live n h l = refl
 
-pub sound-first : (n : ℕ) (h : Header) (l : Link) → HeaderInRange h → eqb (h .flow .dport % 2) 0 ≡ true → soundLink l ≡ true → soundCompressor n (first n h l) ≡ true
+pub sound-first : (n : ℕ) (h : Header) (l : Link) → HeaderInRange h → eqb (h .flow .dport % 2) 0 ≡ true → soundLink l ≡ true
+    → soundCompressor n (first n h l) ≡ true
 sound-first n h l f even s = bounds-soundCompressor n (first n h l) (first-live n h l) (first-bounds n h l f even (soundLink-bounds l s))
 
-pub sound-step : (n : ℕ) (h : Header) (c : CompressorContext) → HeaderInRange h → c .status ≡ Live → soundCompressor n c ≡ true → soundCompressor n (stepOf n h c .context) ≡ true
+pub sound-step : (n : ℕ) (h : Header) (c : CompressorContext) → HeaderInRange h → c .status ≡ Live → soundCompressor n c ≡ true
+    → soundCompressor n (stepOf n h c .context) ≡ true
 sound-step n h c f u s = bounds-soundCompressor n (stepOf n h c .context) (step-status n h c ∙ u) (step-bounds n h c f (soundCompressor-bounds n c u s))
 
 ---- requested

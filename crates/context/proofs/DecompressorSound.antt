@@ -23,7 +23,8 @@ use Rattle.context.specs.declared.decompressor.Outcome.{Outcome}
 use Rattle.context.specs.declared.decompressor.Outcome.the-variants.{Accepted, Refused}
 use Rattle.context.proofs.Tests.{cond-both}
 use Rattle.context.proofs.Gap.{outcome-live}
-use Rattle.context.proofs.SoundFacts.{soundList-made, soundLink-bounds, FilledBounds, filledSound-bounds, bounds-filledSound, hasCode-zero}
+use Rattle.context.proofs.SoundFacts.{hasCode-zero, soundList-made, soundLink-bounds}
+use Rattle.context.proofs.SoundFacts.{FilledBounds, filledSound-bounds, bounds-filledSound}
 
 ---- A live context is sound where it is filled and its fields are in range
 
@@ -73,8 +74,8 @@ sound-advanced g q c p small a u s =
       link = record { sequence = small; generation = b .link .generation };
     })
 
-pub sound-whole : (g q : ℕ) (c : DecompressorContext) (p : Parts) (w : RtpHeader) → q ≤ 15 → PartsSound p → HeaderSound w → c .status ≡ Live → soundDecompressor c ≡ true →
-    soundDecompressor (advancedWhole g q c p w) ≡ true
+pub sound-whole : (g q : ℕ) (c : DecompressorContext) (p : Parts) (w : RtpHeader) → q ≤ 15 → PartsSound p → HeaderSound w
+    → c .status ≡ Live → soundDecompressor c ≡ true → soundDecompressor (advancedWhole g q c p w) ≡ true
 unfolding advancedWhole ipAfter deltasHeld
 sound-whole g q c p w small a t u s =
     let b = soundDecompressor-bounds c u s in
@@ -118,8 +119,8 @@ unfolding applied
 sound-applied n q c p small a s = sound-settled (outcomeOf n q c) c (advanced (gap (c .link .sequence) q) q c p)
     (λ e. sound-advanced (gap (c .link .sequence) q) q c p small a (outcome-live n q c e) s) s
 
-pub sound-appliedWhole : (n q : ℕ) (c : DecompressorContext) (p : Parts) (w : RtpHeader) → q ≤ 15 → PartsSound p → HeaderSound w → soundDecompressor c ≡ true →
-    soundDecompressor (appliedWhole n q c p w .context) ≡ true
+pub sound-appliedWhole : (n q : ℕ) (c : DecompressorContext) (p : Parts) (w : RtpHeader) → q ≤ 15 → PartsSound p → HeaderSound w
+    → soundDecompressor c ≡ true → soundDecompressor (appliedWhole n q c p w .context) ≡ true
 unfolding appliedWhole
 sound-appliedWhole n q c p w small a t s = sound-settled (outcomeOf n q c) c (advancedWhole (gap (c .link .sequence) q) q c p w)
     (λ e. sound-whole (gap (c .link .sequence) q) q c p w small a t (outcome-live n q c e) s) s

@@ -53,7 +53,8 @@ unfolding counted
 whole-lost n m j due true a b x w e f h = absurd (omega arith)
 whole-lost n m j due false a b x w e f h = f (omega arith) ∙ sym (e refl)
 
-module _ (n j : ℕ) (v : DecompressorContext) (h : Header) (c : CompressorContext) (held : Held c) (fits : HeaderInRange h) (few : suc j ≤ n) where
+module _ (n j : ℕ) (v : DecompressorContext) (h : Header) (c : CompressorContext) (held : Held c) (fits : HeaderInRange h)
+    (few : suc j ≤ n) where
   number-lost : Near 16 n j (sequenceSeen v) (sequenceTrack c) → Near 16 n (suc j) (sequenceSeen v) (sequenceTrack (moved n h c (judged h c)))
   unfolding moved judged dueAfter counted
   number-lost r =
@@ -78,9 +79,11 @@ module _ (n j : ℕ) (v : DecompressorContext) (h : Header) (c : CompressorConte
         sequence = omega (arith, m .sequence);
         bound = m .bound;
         running = λ f. let e : 1 ≤ c .due .full - 1 = rw (moved-full n h c) at f in moved-running n h c (omega arith) (m .running (omega arith));
-        id = near-lost 16 n j (idSeen v) (idTrack c) (h .ip .id) (held .id) (fits .ip .id) _ (adoptsId h c) (m .id) few refl (adoptsId-off h c);
+        id = near-lost 16 n j (idSeen v) (idTrack c) (h .ip .id) (held .id) (fits .ip .id)
+            _ (adoptsId h c) (m .id) few refl (adoptsId-off h c);
         number = number-lost (m .number);
-        timestamp = near-lost 32 n j (timestampSeen v) (timestampTrack c) (h .rtp .timestamp) (held .timestamp) (fits .rtp .timestamp) _ (adoptsTimestamp h c) (m .timestamp) few refl (adoptsTimestamp-off h c);
+        timestamp = near-lost 32 n j (timestampSeen v) (timestampTrack c) (h .rtp .timestamp) (held .timestamp) (fits .rtp .timestamp)
+            _ (adoptsTimestamp h c) (m .timestamp) few refl (adoptsTimestamp-off h c);
         payload = whole-lost n _ j (c .due .payload) _ (v .rtp .payload) (c .rtp .payload) (h .rtp .payload) (omega arith) (λ e. eqb-true _ _ (not-false _ e)) (m .payload);
         list = whole-lost n _ j (c .due .list) _ (v .csrc) (c .csrc) (h .csrc) (omega arith) (λ e. sameList-true (h .csrc) (c .csrc) (not-false _ e)) (m .list);
       }
@@ -91,7 +94,8 @@ pub step-context : (n : ℕ) (h : Header) (s : CompressorContext) → stepOf n h
 unfolding stepOf sentWith
 step-context n h s = refl
 
-module _ (n j : ℕ) (v : DecompressorContext) (h : Header) (s : CompressorContext) (fits : HeaderInRange h) (few : suc j ≤ n) (r : Related n j v s) where
+module _ (n j : ℕ) (v : DecompressorContext) (h : Header) (s : CompressorContext) (fits : HeaderInRange h) (few : suc j ≤ n)
+    (r : Related n j v s) where
   close-lost : s .status ≡ Live → sameConstants h s ≡ true → s .due .full + j ≤ n → Close n (suc j) v (moved n h (reset (begun n h s)) (judged h (reset (begun n h s))))
   close-lost u e k =
       let m : Close n j v s = r .close u k in

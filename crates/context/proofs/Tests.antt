@@ -50,7 +50,8 @@ module _ (h : Header) (c : CompressorContext) where
   pub same-constants : sameConstants h c ≡ true → SameConstants h c
   unfolding sameConstants
   same-constants e =
-      let a = all-of-eight true true (eqb (h .ip .tos) (c .ip .tos)) (eqb (h .ip .ttl) (c .ip .ttl)) (eqb (h .ip .flags) (c .ip .flags))
+      let a = all-of-eight true true
+      (eqb (h .ip .tos) (c .ip .tos)) (eqb (h .ip .ttl) (c .ip .ttl)) (eqb (h .ip .flags) (c .ip .flags))
       (sameBit (h .rtp .padding) (c .rtp .padding)) (sameBit (h .rtp .extension) (c .rtp .extension)) (sameBit (eqb (h .checksum) 0) (c .blank)) e in
       record {
         tos = eqb-true _ _ (a .2);

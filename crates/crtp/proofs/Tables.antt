@@ -45,7 +45,6 @@ use Rattle.compressor.specs.Send.{linkBy, linkBytes, sentBytes, kindNumber, ste
 use Rattle.compressor.specs.SendLaws.{On, stepAt}
 use Rattle.decompressor.specs.declared.table.Table as decompressor
 use Rattle.decompressor.specs.Table as decompressing
-use Rattle.decompressor.specs.TableLaws as receiving
 use Rattle.decompressor.proofs.ReceiveSound.{named}
 use Rattle.crtp.proofs.Lists.{frameContext}
 use Rattle.crtp.proofs.Steps.{stepOn-sound, stepOn-held, stepOn-udp, stepOn-rtp, stepOn-link}

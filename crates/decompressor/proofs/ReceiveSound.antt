@@ -178,7 +178,8 @@ module _ (t : Table) (i : ℕ) (sound : Sound t) (among : i < t .settings .conte
   settleRead-way reading.Forbidden at b sent s e = refuses t 5 (omega arith) same (λ output. refl)
   settleRead-way reading.Unused at b sent s e = refuses t 7 (omega arith) same (λ output. refl)
 
-  receiveParts-way : (r : ReadParts) (q : ℕ) (s : List ℕ) → q < 16 → PartsSound (r .parts) → Way t i (λ output. receiveParts r t i q s output)
+  receiveParts-way : (r : ReadParts) (q : ℕ) (s : List ℕ) → q < 16 → PartsSound (r .parts)
+      → Way t i (λ output. receiveParts r t i q s output)
   receiveParts-way r q s small p =
       settleRead-way (r .place .outcome) (r .place .cursor .at) (applied (t .settings .repeats) q (contextAt t i) (r .parts)) (r .parts .checksum) s
       (sound-applied (t .settings .repeats) q (contextAt t i) (r .parts) (omega arith) p (sound-contextAt t i sound))

@@ -17,7 +17,8 @@ use Rattle.context.specs.Sound.{soundDecompressor, soundDecompressorBy, unfille
 use Rattle.context.proofs.DecompressorSound.{sound-none}
 use Rattle.context.specs.declared.decompressor.DecompressorContext.{DecompressorContext}
 use Rattle.decompressor.specs.declared.table.Table.{Table}
-use Rattle.decompressor.specs.Table.{noContext, contextAt, withContext, isEmpty, soundOf, Sound, emptyTable, unopened, openOf, openBy}
+use Rattle.decompressor.specs.Table.{noContext, contextAt, withContext, isEmpty, soundOf, Sound}
+use Rattle.decompressor.specs.Table.{emptyTable, unopened, openOf, openBy}
 
 ---- soundOf
 

@@ -26,7 +26,8 @@ module _ (p : List ℕ) where
   pub fixedForm-true : fixedForm p ≡ true → FixedForm p
   unfolding fixedForm
   fixedForm-true e =
-      let t = all-of-eight true true true true (eqb (byteAt p 0) 0x45) (eqb (wordAt p 6 % 0x4000) 0) (eqb (byteAt p 9) 17) (eqb (byteAt p 28 / 64) 2) e in
+      let t = all-of-eight true true true true
+      (eqb (byteAt p 0) 0x45) (eqb (wordAt p 6 % 0x4000) 0) (eqb (byteAt p 9) 17) (eqb (byteAt p 28 / 64) 2) e in
       record {
         first = eqb-true (byteAt p 0) 0x45 (t .4);
         whole = eqb-true (wordAt p 6 % 0x4000) 0 (t .5);

@@ -10,7 +10,8 @@ use lib.ListN.{length, take, drop, replicate}
 use Rattle.codes.specs.Bytes.{AllBytes, more, bigEndian}
 use Rattle.codes.specs.BytesLaws.{allBytes-append, allBytes-bigEndian}
 use Rattle.codes.specs.Reading.{byteAt, wordAt}
-use Rattle.codes.proofs.BytesRead.{allBytes-byteAt, wordAt-lt, longAt-lt, wordAt-bigEndian, longAt-bigEndian, bigEndian-wordAt, bigEndian-longAt, places, places-drop}
+use Rattle.codes.proofs.BytesRead.{allBytes-byteAt, wordAt-lt, longAt-lt, places, places-drop}
+use Rattle.codes.proofs.BytesRead.{wordAt-bigEndian, longAt-bigEndian, bigEndian-wordAt, bigEndian-longAt}
 use Rattle.packet.specs.Ranges.{HeaderInRange, FlowInRange, IpInRange, RtpInRange, ListInRange, Narrow}
 use Rattle.packet.specs.declared.header.Header.{Header}
 use Rattle.bytes.specs.Flags.{bitAt, digit, byteOf, flagsOf}

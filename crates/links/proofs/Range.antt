@@ -12,7 +12,8 @@ use Rattle.bytes.specs.declared.flags.Flags.{Flags}
 use Rattle.bytes.specs.Flags.{flagsOf}
 use Rattle.fields.specs.declared.place.Place.{Place}
 use Rattle.fields.specs.Next.{nextByte, nextWord, nextLong, nextDelta16, nextVersion}
-use Rattle.fields.proofs.NextRange.{nextByte-within, nextWord-within, nextLong-within, nextDelta16-within, nextDelta32-within, nextPayload-within, nextVersion-within, nextList-within, nextDelta32-coded, nextPayload-value, nextList-sound}
+use Rattle.fields.proofs.NextRange.{nextByte-within, nextWord-within, nextLong-within, nextDelta16-within, nextDelta32-within}
+use Rattle.fields.proofs.NextRange.{nextPayload-within, nextVersion-within, nextList-within, nextDelta32-coded, nextPayload-value, nextList-sound}
 use Rattle.links.specs.declared.cr.Second.{Second}
 use Rattle.links.specs.declared.whole.Fixed.{Fixed}
 use Rattle.links.specs.Cu.{changesOf, valuesOf, cuRest, cuOf}

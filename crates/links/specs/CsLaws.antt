@@ -20,7 +20,8 @@ use Rattle.bytes.specs.FlagsLaws.{byteOf-value, flagsOf-byteOf}
 use Rattle.links.specs.declared.judgement.Judgement.{Judgement}
 use Rattle.links.specs.declared.judgement.Judgement.the-variants.{Good, Cut, Forbidden, NoSuchContext}
 use Rattle.links.specs.Judgement.{firstRefusal}
-use Rattle.links.specs.Cs.{State, recordFlags, recordBytes, recordsBytes, csBytes, recordCount, recordAt, recordContext, recordAsks, bitsForbidden, recordWith, recordJudged, recordsJudged, requestJudged, RequestGood}
+use Rattle.links.specs.Cs.{State, recordFlags, recordBytes, recordsBytes, csBytes, recordCount, recordAt, recordContext, recordAsks}
+use Rattle.links.specs.Cs.{bitsForbidden, recordWith, recordJudged, recordsJudged, requestJudged, RequestGood}
 
 ---- recordWith: context number, then bits
 

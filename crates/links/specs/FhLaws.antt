@@ -1,6 +1,6 @@
 -- Iarwennol. Laws of FULL_HEADER: what was encoded is judged good and read back, whatever comes after it. Assume nothing.
 -- Used by the theorem on lists of calls (crtp), by the decompressor and by refresh.
-use Prim.Native.Nat.{ℕ, _+_, _-_, _*_, _/_, _%_, _^_, _≤_, _<_}
+use Prim.Native.Nat.{ℕ, _+_, _-_, _*_, _/_, _%_, _≤_, _<_}
 use mathlib.Core.Path.{_≡_, refl, sym, _∙_}
 use mathlib.Core.Bool.{Bool, true, false, cond, not, _&&_}
 use mathlib.Core.List.{List, _++_}

@@ -1,6 +1,6 @@
 -- Iarwennol. Laws of the ranges of a CSRC list. Assume nothing.
 -- Used by the laws of lists that are read (headers, fields), and by soundness (context).
-use Prim.Native.Nat.{ℕ, zero, suc, _^_, _≤_, _<_}
+use Prim.Native.Nat.{ℕ, zero, suc, _^_, _<_}
 use mathlib.Core.Path.{_≡_, refl}
 use native.Mathlib.Omega.{arith}
 use lib.ListN.{getD, replicate}
