@@ -1,5 +1,5 @@
--- Iarwennol. Laws of the flag byte: splitting and packing are inverse. Assume nothing.
--- Used by the round trips of the link layouts (links).
+-- Iarwennol. Laws of the flag byte: it is a byte, and splitting and packing are inverse. Assume nothing.
+-- Used by the laws of the header (headers) and of the link layouts (links).
 use Prim.Native.Nat.{ℕ, _+_, _*_, _/_, _%_, _<_}
 use mathlib.Core.Path.{_≡_, refl}
 use mathlib.Core.Bool.{Bool, true, false}
@@ -13,9 +13,12 @@ digit-back : (b : Bool) (x : ℕ) → x ≡ digit b → eqb x 1 ≡ b
 digit-back true x e = rw e
 digit-back false x e = rw e
 
-digit-lt : (b : Bool) → digit b < 2
+pub digit-lt : (b : Bool) → digit b < 2
 digit-lt true = omega arith
 digit-lt false = omega arith
+
+pub byteOf-value : (f : Flags) → f .low < 16 → byteOf f < 256
+byteOf-value f h = omega (arith, digit-lt (f .a), digit-lt (f .b), digit-lt (f .c), digit-lt (f .d))
 
 pub flagsOf-byteOf : (f : Flags) → f .low < 16 → flagsOf (byteOf f) ≡ f
 flagsOf-byteOf f h =

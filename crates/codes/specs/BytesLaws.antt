@@ -2,11 +2,14 @@
 -- Used wherever an output is shown to consist of bytes.
 use Prim.Native.Nat.{ℕ, zero, suc, _+_, _/_, _%_, _<_}
 use mathlib.Core.Path.{_≡_, refl}
+use mathlib.Core.Bool.{true, and-eq-true-iff}
 use mathlib.Core.List.{List, [], _∷_, _++_}
 use native.Mathlib.Numerals.{add-one}
 use native.Mathlib.Omega.{arith}
+use borrow.Author.Tests.{ltb-true}
+use lib.Dec.{ltb}
 use lib.ListN.{length, getD, length-append}
-use Rattle.codes.specs.Bytes.{AllBytes, none, more, bigEndian}
+use Rattle.codes.specs.Bytes.{AllBytes, none, more, areBytes, bigEndian}
 
 ---- AllBytes
 
@@ -18,6 +21,12 @@ allBytes-append (more h a) b = more h (allBytes-append a b)
 pub allBytes-elements : (l : List ℕ) → ((i : ℕ) → getD l i 0 < 256) → AllBytes l
 allBytes-elements [] h = none
 allBytes-elements (b ∷ bs) h = more (h 0) (allBytes-elements bs (λ i. h (suc i)))
+
+pub allBytes-areBytes : (l : List ℕ) → areBytes l ≡ true → AllBytes l
+allBytes-areBytes [] e = none
+allBytes-areBytes (b ∷ bs) e =
+    let t = and-eq-true-iff (ltb b 256) (areBytes bs) .0 e in
+    more (ltb-true b 256 (t .0)) (allBytes-areBytes bs (t .1))
 
 ---- bigEndian
 

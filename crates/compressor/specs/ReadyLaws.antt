@@ -13,9 +13,9 @@ use Rattle.headers.specs.CompressibleLaws.{compressible-size}
 use Rattle.settings.specs.SettingsLaws.{range-repeats, range-most}
 use Rattle.context.specs.Sound.{soundCompressor}
 use Rattle.compressor.specs.declared.table.Table.{Table}
-use Rattle.compressor.specs.Table.{noContext, contextAt, soundOf}
-use Rattle.context.specs.AllLaws.{all-at}
-use Rattle.compressor.specs.TableLaws.{Sound, soundOf-true}
+use Rattle.compressor.specs.Table.{noContext, contextAt, soundOf, Sound}
+use Rattle.context.proofs.AllLaws.{all-at}
+use Rattle.compressor.specs.TableLaws.{soundOf-true}
 use Rattle.compressor.specs.SendLaws.{On}
 use Rattle.compressor.specs.Ready.{Ready}
 use Rattle.outgoing.specs.StepLaws.{writable-stepOn}

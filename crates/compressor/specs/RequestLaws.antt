@@ -21,9 +21,8 @@ use Rattle.context.specs.Compressor.{requested}
 use Rattle.context.specs.declared.compressor.CompressorContext.{CompressorContext}
 use Rattle.compressor.specs.declared.table.Table.{Table}
 use Rattle.compressor.specs.Answer.{refused}
-use Rattle.compressor.specs.Table.{noContext, contextAt, isEmpty, emptyBy, soundOf}
-use Rattle.context.specs.AllLaws.{all-at}
-use Rattle.compressor.specs.TableLaws.{Sound}
+use Rattle.compressor.specs.Table.{noContext, contextAt, isEmpty, emptyBy, soundOf, Sound}
+use Rattle.context.proofs.AllLaws.{all-at}
 use Rattle.compressor.specs.Request.{asked, askedAll, requestTable, requestBy, requestOf}
 
 ---- all, by its elements

@@ -27,15 +27,15 @@ use Rattle.compressor.specs.declared.table.Table.{Table}
 use Rattle.compressor.specs.declared.lookup.Found.{Found}
 use Rattle.compressor.specs.declared.lookup.Found.the-variants.{At, Nowhere}
 use Rattle.compressor.specs.Answer.{Result, refused, accepted, delivered}
-use Rattle.compressor.specs.Table.{noContext, contextAt, withContext, soundOf, emptyTable, openBy, openOf}
-use Rattle.compressor.specs.TableLaws.{Sound, soundOf-true, sound-withContext, sound-emptyTable, openOf-accepted}
+use Rattle.compressor.specs.Table.{noContext, contextAt, withContext, soundOf, emptyTable, openBy, openOf, Sound}
+use Rattle.compressor.specs.TableLaws.{soundOf-true, sound-withContext, sound-emptyTable, openOf-accepted}
 use Rattle.compressor.specs.Lookup.{placeOf}
 use Rattle.compressor.specs.Send.{stepOn, kindNumber, sentBytes, sendAt, sendPlain, sendTo, sendOf}
 use Rattle.compressor.specs.SendLaws.{On, stepAt, sentOn, Goes, goes-refused, goes-plain, goes-on, sendOf-goes}
 use Rattle.outgoing.specs.SizeLaws.{linkSize-most}
 use Rattle.compressor.specs.Ready.{Ready}
 use Rattle.compressor.specs.SentLaws.{length-sentBytes}
-use Rattle.outgoing.specs.StepLaws.{fits-range, sound-stepOn}
+use Rattle.outgoing.specs.StepLaws.{sound-stepOn}
 use Rattle.compressor.specs.ReadyLaws.{sound-most, sound-contextAt, ready-on}
 
 ---- openOf
@@ -97,7 +97,7 @@ module _ (t : Table) (p : List ℕ) (size : length (t .contexts) ≡ 64) (bytes 
   sound-after : (i : ℕ) → On t p i → soundCompressor (t .settings .repeats) (stepAt t p i .context) ≡ true
   sound-after i o =
       let s = soundOf-true t (o .sound) in
-      sound-stepOn (t .settings .repeats) (headerOf p) (fits-range (headerOf-range bytes)) (port-even i o) (contextAt t i)
+      sound-stepOn (t .settings .repeats) (headerOf p) (headerOf-range bytes) (port-even i o) (contextAt t i)
       (sound-contextAt t s size i (omega (arith, o .place .among, sound-most t s)))
 
   goes-sound : (output : List ℕ) (r : Result) → Goes t p output r → Sound t → Sound (r .table)

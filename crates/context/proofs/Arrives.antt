@@ -9,13 +9,14 @@ use lib.Dec.{eqb, ltb}
 use borrow.Author.Tests.{eqb-true, ltb-true, ltb-false, lt-ltb, le-ltb, not-false}
 use Rattle.packet.specs.Csrc.{sameList}
 use Rattle.packet.specs.CsrcLaws.{sameList-true}
+use Rattle.packet.specs.Ranges.{HeaderInRange}
 use Rattle.packet.specs.declared.csrc.Csrc.{Csrc}
 use Rattle.packet.specs.declared.header.Header.{Header}
 use Rattle.packet.specs.declared.parts.Parts.{Parts}
 use Rattle.context.specs.Field.{nextSequence, offPattern, isDue, movedOn}
 use Rattle.context.specs.Compressor.{resetDeltas, sameConstants, begun, reset, judged, adoptsId, adoptsTimestamp, dueNow, anyDue, kindOf, listIf, partsOf, deltasAfter, moved, sentWith, sentFrom, stepOf}
 use Rattle.context.specs.Decompressor.{filled, ipAfter, rtpAfter, deltasHeld, advanced, applied, rebuilt}
-use Rattle.context.specs.Range.{HeaderFits, Held}
+use Rattle.context.specs.Range.{Held}
 use Rattle.context.specs.Relation.{Constants, Running, Close, Related, Arrives, received, isFull, idTrack, idSeen, sequenceTrack, sequenceSeen, timestampTrack, timestampSeen}
 use Rattle.context.specs.declared.kept.Deltas.{Deltas}
 use Rattle.context.specs.declared.kept.Link.{Link}
@@ -48,7 +49,7 @@ standing q g f h d = record {
 }
 
 -- a checksum that is not carried is the blank one
-checksum-back : (b : Bool) (x : ℕ) → eqb x 0 ≡ b → cond (not b) x 0 ≡ x
+pub checksum-back : (b : Bool) (x : ℕ) → eqb x 0 ≡ b → cond (not b) x 0 ≡ x
 checksum-back true x e = sym (eqb-true x 0 e)
 checksum-back false x e = refl
 
@@ -103,7 +104,7 @@ close-now n g f h c d flow small e run =
 
 ---- A full header: what it resets to is what the decompressor sets
 
-module _ (n : ℕ) (v : DecompressorContext) (h : Header) (c : CompressorContext) (fits : HeaderFits h) (held : Held c) (flow : h .flow ≡ c .flow) where
+module _ (n : ℕ) (v : DecompressorContext) (h : Header) (c : CompressorContext) (fits : HeaderInRange h) (held : Held c) (flow : h .flow ≡ c .flow) where
   deltas-full : 1 ≤ c .due .full → Running c → resetDeltas ≡ deltasAfter (c .deltas) (judged h c)
   unfolding deltasAfter judged
   deltas-full f r = rw (adoptsId-full h c f, adoptsTimestamp-full h c f) (λ i. record { id = sym (r .id) i; timestamp = sym (r .timestamp) i })
@@ -145,14 +146,14 @@ received-part : (any : Bool) (n : ℕ) (h : Header) (l : Link) (p : Parts) (v : 
 received-part true n h l p v = refl
 received-part false n h l p v = refl
 
-module _ (n j : ℕ) (v : DecompressorContext) (h : Header) (c : CompressorContext) (fits : HeaderFits h) (held : Held c) (few : j ≤ n) (flow : h .flow ≡ c .flow)
+module _ (n j : ℕ) (v : DecompressorContext) (h : Header) (c : CompressorContext) (fits : HeaderInRange h) (held : Held c) (few : j ≤ n) (flow : h .flow ≡ c .flow)
     (g : SameConstants h c) (m : Close n j v c) where
   number-arrives :
       movedOn 16 (suc j) (v .rtp .sequence) 1 false 0 (isDue (offPattern 16 (c .rtp .sequence) 1 (h .rtp .sequence)) (c .due .sequence))
       (cond (isDue (offPattern 16 (c .rtp .sequence) 1 (h .rtp .sequence)) (c .due .sequence)) (h .rtp .sequence) 0) ≡ h .rtp .sequence
   unfolding isDue
   number-arrives =
-      value-arrives 16 n j (sequenceSeen v) (sequenceTrack c) (h .rtp .sequence) (held .sequence) (fits .sequence)
+      value-arrives 16 n j (sequenceSeen v) (sequenceTrack c) (h .rtp .sequence) (held .sequence) (fits .rtp .sequence)
       (offPattern 16 (c .rtp .sequence) 1 (h .rtp .sequence)) false (m .number) few refl (λ e. absurd (false≢true e))
 
   payload-arrives :
@@ -172,10 +173,10 @@ module _ (n j : ℕ) (v : DecompressorContext) (h : Header) (c : CompressorConte
   unfolding advanced ipAfter rtpAfter deltasHeld sentWith partsOf dueNow deltasAfter judged
   arrived =
       let k : Constants v c = m .constants in
-      let hi = value-arrives 16 n j (idSeen v) (idTrack c) (h .ip .id) (held .id) (fits .id) (offPattern 16 (c .ip .id) (c .deltas .id) (h .ip .id)) (adoptsId h c) (m .id) few refl (adoptsId-off h c) in
-      let ht = value-arrives 32 n j (timestampSeen v) (timestampTrack c) (h .rtp .timestamp) (held .timestamp) (fits .timestamp) (offPattern 32 (c .rtp .timestamp) (c .deltas .timestamp) (h .rtp .timestamp)) (adoptsTimestamp h c) (m .timestamp) few refl (adoptsTimestamp-off h c) in
-      let di = delta-arrives 16 n j (idSeen v) (idTrack c) (h .ip .id) (held .id) (fits .id) (adoptsId h c) (m .id) few in
-      let dt = delta-arrives 32 n j (timestampSeen v) (timestampTrack c) (h .rtp .timestamp) (held .timestamp) (fits .timestamp) (adoptsTimestamp h c) (m .timestamp) few in
+      let hi = value-arrives 16 n j (idSeen v) (idTrack c) (h .ip .id) (held .id) (fits .ip .id) (offPattern 16 (c .ip .id) (c .deltas .id) (h .ip .id)) (adoptsId h c) (m .id) few refl (adoptsId-off h c) in
+      let ht = value-arrives 32 n j (timestampSeen v) (timestampTrack c) (h .rtp .timestamp) (held .timestamp) (fits .rtp .timestamp) (offPattern 32 (c .rtp .timestamp) (c .deltas .timestamp) (h .rtp .timestamp)) (adoptsTimestamp h c) (m .timestamp) few refl (adoptsTimestamp-off h c) in
+      let di = delta-arrives 16 n j (idSeen v) (idTrack c) (h .ip .id) (held .id) (fits .ip .id) (adoptsId h c) (m .id) few in
+      let dt = delta-arrives 32 n j (timestampSeen v) (timestampTrack c) (h .rtp .timestamp) (held .timestamp) (fits .rtp .timestamp) (adoptsTimestamp h c) (m .timestamp) few in
       let hl = list-arrives (anyDue (dueNow (c .due) (judged h c))) (h .csrc) (v .csrc) list-due in
       λ i. record {
         status = m .status i;
@@ -218,7 +219,7 @@ module _ (n j : ℕ) (v : DecompressorContext) (h : Header) (c : CompressorConte
 ---- stepOf
 
 -- while full headers are due, whatever the decompressor has there
-full-step : (n : ℕ) (v : DecompressorContext) (h : Header) (s : CompressorContext) → HeaderFits h → Held s → h .flow ≡ s .flow →
+full-step : (n : ℕ) (v : DecompressorContext) (h : Header) (s : CompressorContext) → HeaderInRange h → Held s → h .flow ≡ s .flow →
     1 ≤ begun n h s .due .full → Arrives n v h (stepOf n h s)
 unfolding stepOf
 full-step n v h s fits held flow f =
@@ -237,11 +238,11 @@ full-due n h s e =
     rw (reset-full (begun n h s)) at (ltb-true 0 (c .due .full) (full-kind (ltb 0 (c .due .full)) (anyDue (dueNow (c .due) (judged h c))) e))
 
 -- a full header arrives, whatever the decompressor has there
-pub related-full : (n : ℕ) (v : DecompressorContext) (h : Header) (s : CompressorContext) → HeaderFits h → Held s → h .flow ≡ s .flow →
+pub related-full : (n : ℕ) (v : DecompressorContext) (h : Header) (s : CompressorContext) → HeaderInRange h → Held s → h .flow ≡ s .flow →
     stepOf n h s .kind ≡ FullHeader → Arrives n v h (stepOf n h s)
 related-full n v h s fits held flow e = full-step n v h s fits held flow (full-due n h s e)
 
-module _ (n j : ℕ) (v : DecompressorContext) (h : Header) (s : CompressorContext) (fits : HeaderFits h) (flow : h .flow ≡ s .flow) (r : Related n j v s) where
+module _ (n j : ℕ) (v : DecompressorContext) (h : Header) (s : CompressorContext) (fits : HeaderInRange h) (flow : h .flow ≡ s .flow) (r : Related n j v s) where
   arrives-part : s .status ≡ usage.Live → n ≤ 14 → sameConstants h s ≡ true → s .due .full ≡ 0 → Arrives n v h (stepOf n h s)
   unfolding stepOf
   arrives-part u most e z =

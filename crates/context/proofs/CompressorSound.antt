@@ -7,10 +7,11 @@ use mathlib.Core.Bool.{Bool, true, false}
 use native.Mathlib.Omega.{arith}
 use lib.Dec.{eqb}
 use Rattle.codes.specs.Difference.{hasCode}
+use Rattle.packet.specs.Ranges.{HeaderInRange}
+use Rattle.packet.specs.RangesLaws.{range-sound}
 use Rattle.packet.specs.declared.header.Header.{Header}
 use Rattle.context.specs.Field.{counted, nextSequence, nextGeneration}
 use Rattle.context.specs.Compressor.{resetDeltas, withKept, withDue, first, started, sameConstants, begun, skips, startedUnlessDue, requestedBy, requested, reset, adoptsTimestamp, judged, dueAfter, deltasAfter, moved, stepOf}
-use Rattle.context.specs.Range.{HeaderFits}
 use Rattle.context.specs.Sound.{soundLink, usedSound, unusedSound, soundCompressorBy, soundCompressor, emptyCompressor, zeroList}
 use Rattle.context.specs.declared.kept.Link.{Link}
 use Rattle.context.specs.declared.compressor.Usage.{Usage}
@@ -22,7 +23,8 @@ use Rattle.context.proofs.Tests.{cond-when, cond-both, adoptsTimestamp-
 use Rattle.context.proofs.Ready.{Kept, started-kept}
 use Rattle.context.proofs.Lost.{step-context}
 use Rattle.context.proofs.Arrives.{step-status}
-use Rattle.context.proofs.SoundFacts.{LinkBounds, soundLink-bounds, DueBounds, UsedBounds, usedSound-bounds, bounds-usedSound, hasCode-zero}
+use Rattle.context.proofs.SoundFacts.{hasCode-zero, soundList-made, LinkBounds, soundLink-bounds}
+use Rattle.context.proofs.SoundFacts.{DueBounds, UsedBounds, usedSound-bounds, bounds-usedSound}
 
 ---- counted, dueAfter
 
@@ -50,13 +52,14 @@ due-bounds n d j b = record {
 
 ---- The bounds of a context in use, step by step
 
-moved-bounds : (n : ℕ) (h : Header) (c : CompressorContext) → HeaderFits h → UsedBounds n c → UsedBounds n (moved n h c (judged h c))
+moved-bounds : (n : ℕ) (h : Header) (c : CompressorContext) → HeaderInRange h → UsedBounds n c
+    → UsedBounds n (moved n h c (judged h c))
 unfolding moved deltasAfter judged nextSequence
 moved-bounds n h c f b = record {
   port = b .port;
-  flags = f .flags;
-  payload = f .payload;
-  list = f .list;
+  flags = omega (arith, f .ip .flags);
+  payload = omega (arith, f .rtp .payload);
+  list = soundList-made (h .csrc) (range-sound (f .csrc));
   coded = cond-when (λ (d : ℕ). hasCode 32 d ≡ true) (adoptsTimestamp h c) _ _ (adoptsTimestamp-coded h c) (b .coded);
   due = due-bounds n (c .due) (judged h c) (b .due);
   link = record { sequence = omega arith; generation = b .link .generation };
@@ -93,16 +96,17 @@ reset-bounds n c b = let d = b .due in cond-both (λ (x : CompressorContext). Us
 pub ready-bounds : (n : ℕ) (h : Header) (c : CompressorContext) → UsedBounds n c → UsedBounds n (reset (begun n h c))
 ready-bounds n h c b = reset-bounds n (begun n h c) (begun-bounds n h c b)
 
-step-bounds : (n : ℕ) (h : Header) (c : CompressorContext) → HeaderFits h → UsedBounds n c → UsedBounds n (stepOf n h c .context)
+step-bounds : (n : ℕ) (h : Header) (c : CompressorContext) → HeaderInRange h → UsedBounds n c → UsedBounds n (stepOf n h c .context)
 step-bounds n h c f b = rw (step-context n h c) (moved-bounds n h (reset (begun n h c)) f (ready-bounds n h c b))
 
-first-bounds : (n : ℕ) (h : Header) (l : Link) → HeaderFits h → eqb (h .flow .dport % 2) 0 ≡ true → LinkBounds l → UsedBounds n (first n h l)
+first-bounds : (n : ℕ) (h : Header) (l : Link) → HeaderInRange h → eqb (h .flow .dport % 2) 0 ≡ true → LinkBounds l
+    → UsedBounds n (first n h l)
 unfolding first nextSequence
 first-bounds n h l f even b = record {
   port = even;
-  flags = f .flags;
-  payload = f .payload;
-  list = f .list;
+  flags = omega (arith, f .ip .flags);
+  payload = omega (arith, f .rtp .payload);
+  list = soundList-made (h .csrc) (range-sound (f .csrc));
   coded = hasCode-zero;
   due = record { full = omega arith; id = omega arith; sequence = omega arith; timestamp = omega arith; payload = omega arith; list = omega arith; did = omega arith; dts = omega arith };
   link = record { sequence = omega arith; generation = b .generation };
@@ -132,10 +136,12 @@ first-live : (n : ℕ) (h : Header) (l : Link) → first n h l .status ≡ Live
 unfolding first
 first-live n h l = refl
 
-pub sound-first : (n : ℕ) (h : Header) (l : Link) → HeaderFits h → eqb (h .flow .dport % 2) 0 ≡ true → soundLink l ≡ true → soundCompressor n (first n h l) ≡ true
+pub sound-first : (n : ℕ) (h : Header) (l : Link) → HeaderInRange h → eqb (h .flow .dport % 2) 0 ≡ true → soundLink l ≡ true
+    → soundCompressor n (first n h l) ≡ true
 sound-first n h l f even s = bounds-soundCompressor n (first n h l) (first-live n h l) (first-bounds n h l f even (soundLink-bounds l s))
 
-pub sound-step : (n : ℕ) (h : Header) (c : CompressorContext) → HeaderFits h → c .status ≡ Live → soundCompressor n c ≡ true → soundCompressor n (stepOf n h c .context) ≡ true
+pub sound-step : (n : ℕ) (h : Header) (c : CompressorContext) → HeaderInRange h → c .status ≡ Live → soundCompressor n c ≡ true
+    → soundCompressor n (stepOf n h c .context) ≡ true
 sound-step n h c f u s = bounds-soundCompressor n (stepOf n h c .context) (step-status n h c ∙ u) (step-bounds n h c f (soundCompressor-bounds n c u s))
 
 ---- requested

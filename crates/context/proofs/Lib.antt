@@ -1,3 +1,4 @@
+pub mod AllLaws
 pub mod Arrays
 pub mod Tests
 pub mod FieldLaws

@@ -7,10 +7,11 @@ use mathlib.Core.Bool.{Bool, true, false, not, false≢true}
 use native.Mathlib.Omega.{arith}
 use borrow.Author.Tests.{eqb-true, not-false}
 use Rattle.packet.specs.CsrcLaws.{sameList-true}
+use Rattle.packet.specs.Ranges.{HeaderInRange}
 use Rattle.packet.specs.declared.header.Header.{Header}
 use Rattle.context.specs.Field.{counted, nextSequence, offPattern}
 use Rattle.context.specs.Compressor.{sameConstants, started, begun, reset, judged, adoptsId, adoptsTimestamp, dueAfter, deltasAfter, moved, sentWith, stepOf}
-use Rattle.context.specs.Range.{HeaderFits, Held}
+use Rattle.context.specs.Range.{Held}
 use Rattle.context.specs.Relation.{Near, Constants, Running, Close, Related, idTrack, idSeen, sequenceTrack, sequenceSeen, timestampTrack, timestampSeen}
 use Rattle.context.specs.declared.compressor.Usage.the-variants.{Live}
 use Rattle.context.specs.declared.compressor.CompressorContext.{CompressorContext}
@@ -21,12 +22,12 @@ use Rattle.context.proofs.Ready.{started-full, begun-same, begun-starte
 
 ---- moved
 
-pub moved-held : (n : ℕ) (h : Header) (c : CompressorContext) → HeaderFits h → Held c → Held (moved n h c (judged h c))
+pub moved-held : (n : ℕ) (h : Header) (c : CompressorContext) → HeaderInRange h → Held c → Held (moved n h c (judged h c))
 unfolding moved deltasAfter judged nextSequence
 moved-held n h c f k = record {
-  id = f .id;
-  sequence = f .sequence;
-  timestamp = f .timestamp;
+  id = f .ip .id;
+  sequence = f .rtp .sequence;
+  timestamp = f .rtp .timestamp;
   did = cond-both (λ (d : ℕ). d < 2 ^ 16) (adoptsId h c) _ _ (difference-fits 16 (c .ip .id) (h .ip .id)) (k .did);
   dts = cond-both (λ (d : ℕ). d < 2 ^ 32) (adoptsTimestamp h c) _ _ (difference-fits 32 (c .rtp .timestamp) (h .rtp .timestamp)) (k .dts);
   link = omega arith;
@@ -52,11 +53,12 @@ unfolding counted
 whole-lost n m j due true a b x w e f h = absurd (omega arith)
 whole-lost n m j due false a b x w e f h = f (omega arith) ∙ sym (e refl)
 
-module _ (n j : ℕ) (v : DecompressorContext) (h : Header) (c : CompressorContext) (held : Held c) (fits : HeaderFits h) (few : suc j ≤ n) where
+module _ (n j : ℕ) (v : DecompressorContext) (h : Header) (c : CompressorContext) (held : Held c) (fits : HeaderInRange h)
+    (few : suc j ≤ n) where
   number-lost : Near 16 n j (sequenceSeen v) (sequenceTrack c) → Near 16 n (suc j) (sequenceSeen v) (sequenceTrack (moved n h c (judged h c)))
   unfolding moved judged dueAfter counted
   number-lost r =
-      near-lost 16 n j (sequenceSeen v) (sequenceTrack c) (h .rtp .sequence) (held .sequence) (fits .sequence)
+      near-lost 16 n j (sequenceSeen v) (sequenceTrack c) (h .rtp .sequence) (held .sequence) (fits .rtp .sequence)
       (offPattern 16 (c .rtp .sequence) 1 (h .rtp .sequence)) false r few refl (λ e. absurd (false≢true e))
 
   moved-lost : SameConstants h c → Close n j v c → Close n (suc j) v (moved n h c (judged h c))
@@ -77,9 +79,11 @@ module _ (n j : ℕ) (v : DecompressorContext) (h : Header) (c : CompressorConte
         sequence = omega (arith, m .sequence);
         bound = m .bound;
         running = λ f. let e : 1 ≤ c .due .full - 1 = rw (moved-full n h c) at f in moved-running n h c (omega arith) (m .running (omega arith));
-        id = near-lost 16 n j (idSeen v) (idTrack c) (h .ip .id) (held .id) (fits .id) _ (adoptsId h c) (m .id) few refl (adoptsId-off h c);
+        id = near-lost 16 n j (idSeen v) (idTrack c) (h .ip .id) (held .id) (fits .ip .id)
+            _ (adoptsId h c) (m .id) few refl (adoptsId-off h c);
         number = number-lost (m .number);
-        timestamp = near-lost 32 n j (timestampSeen v) (timestampTrack c) (h .rtp .timestamp) (held .timestamp) (fits .timestamp) _ (adoptsTimestamp h c) (m .timestamp) few refl (adoptsTimestamp-off h c);
+        timestamp = near-lost 32 n j (timestampSeen v) (timestampTrack c) (h .rtp .timestamp) (held .timestamp) (fits .rtp .timestamp)
+            _ (adoptsTimestamp h c) (m .timestamp) few refl (adoptsTimestamp-off h c);
         payload = whole-lost n _ j (c .due .payload) _ (v .rtp .payload) (c .rtp .payload) (h .rtp .payload) (omega arith) (λ e. eqb-true _ _ (not-false _ e)) (m .payload);
         list = whole-lost n _ j (c .due .list) _ (v .csrc) (c .csrc) (h .csrc) (omega arith) (λ e. sameList-true (h .csrc) (c .csrc) (not-false _ e)) (m .list);
       }
@@ -90,7 +94,8 @@ pub step-context : (n : ℕ) (h : Header) (s : CompressorContext) → stepOf n h
 unfolding stepOf sentWith
 step-context n h s = refl
 
-module _ (n j : ℕ) (v : DecompressorContext) (h : Header) (s : CompressorContext) (fits : HeaderFits h) (few : suc j ≤ n) (r : Related n j v s) where
+module _ (n j : ℕ) (v : DecompressorContext) (h : Header) (s : CompressorContext) (fits : HeaderInRange h) (few : suc j ≤ n)
+    (r : Related n j v s) where
   close-lost : s .status ≡ Live → sameConstants h s ≡ true → s .due .full + j ≤ n → Close n (suc j) v (moved n h (reset (begun n h s)) (judged h (reset (begun n h s))))
   close-lost u e k =
       let m : Close n j v s = r .close u k in

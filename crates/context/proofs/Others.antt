@@ -5,11 +5,12 @@ use Prim.Native.Nat.{ℕ, suc, _≤_, _<_}
 use mathlib.Core.Path.{_≡_, refl}
 use mathlib.Core.Bool.{true, false, true≢false}
 use native.Mathlib.Omega.{arith}
+use Rattle.packet.specs.Ranges.{HeaderInRange}
 use Rattle.packet.specs.declared.header.Header.{Header}
 use Rattle.context.specs.Field.{nextSequence}
 use Rattle.context.specs.Compressor.{started, skips, startedUnlessDue, requested, requestedBy, first, firstStep, partsOf}
 use Rattle.context.specs.Decompressor.{filled}
-use Rattle.context.specs.Range.{HeaderFits, Held}
+use Rattle.context.specs.Range.{Held}
 use Rattle.context.specs.Sound.{emptyCompressor}
 use Rattle.context.specs.Relation.{Close, Related, Arrives, idTrack, idSeen, sequenceTrack, sequenceSeen, timestampTrack, timestampSeen}
 use Rattle.context.specs.declared.kept.Link.{Link}
@@ -24,9 +25,16 @@ use Rattle.context.proofs.Arrives.{filled-exact}
 
 ---- first
 
-first-held : (n : ℕ) (h : Header) (l : Link) → HeaderFits h → Held (first n h l)
+first-held : (n : ℕ) (h : Header) (l : Link) → HeaderInRange h → Held (first n h l)
 unfolding first nextSequence
-first-held n h l f = record { id = f .id; sequence = f .sequence; timestamp = f .timestamp; did = omega arith; dts = omega arith; link = omega arith }
+first-held n h l f = record {
+  id = f .ip .id;
+  sequence = f .rtp .sequence;
+  timestamp = f .rtp .timestamp;
+  did = omega arith;
+  dts = omega arith;
+  link = omega arith;
+}
 
 -- after the first full header as many are due as may be lost
 first-full : (n : ℕ) (h : Header) (l : Link) → n ≤ first n h l .due .full
@@ -34,7 +42,8 @@ unfolding first
 first-full n h l = omega arith
 
 -- a context's first packet is lost, whatever the decompressor has there
-pub related-first-lost : (n j : ℕ) (v : DecompressorContext) (h : Header) (l : Link) → HeaderFits h → suc j ≤ n → Related n (suc j) v (first n h l)
+pub related-first-lost : (n j : ℕ) (v : DecompressorContext) (h : Header) (l : Link) → HeaderInRange h → suc j ≤ n
+    → Related n (suc j) v (first n h l)
 related-first-lost n j v h l f few = record { few = few; held = first-held n h l f; close = λ u k. absurd (omega (arith, first-full n h l)) }
 
 first-close : (n : ℕ) (h : Header) (l : Link) → l .sequence < 16 → Close n 0 (filled h l) (first n h l)
@@ -53,7 +62,8 @@ first-close n h l small = record {
 }
 
 -- a context's first packet arrives, whatever the decompressor has there
-pub related-first-arrives : (n : ℕ) (v : DecompressorContext) (h : Header) (l : Link) → HeaderFits h → l .sequence < 16 → Arrives n v h (firstStep n h l)
+pub related-first-arrives : (n : ℕ) (v : DecompressorContext) (h : Header) (l : Link) → HeaderInRange h → l .sequence < 16
+    → Arrives n v h (firstStep n h l)
 unfolding firstStep partsOf
 related-first-arrives n v h l f small = record {
   gap = 1;

@@ -1,21 +1,21 @@
 -- Iarwennol. What a packet on a context carries.
--- Parts that the layouts have room for, and that leave the other end sound. Assume nothing.
+-- Parts that the layouts have room for. Assume nothing.
 -- Used where parts are written and read back, and by robustness (rule 10).
 use Prim.Native.Nat.{ℕ, _^_, _<_}
-use mathlib.Core.Path.{_≡_, refl, sym}
-use mathlib.Core.Bool.{Bool, true, false, cond, true≢false}
+use mathlib.Core.Path.{_≡_, refl, sym, _∙_}
+use mathlib.Core.Bool.{Bool, true, false, cond, not, true≢false}
 use native.Mathlib.Omega.{arith}
-use lib.Dec.{ltb}
-use lib.ListN.{length}
-use borrow.Author.Tests.{eqb-true}
+use lib.Dec.{eqb, ltb}
 use Rattle.codes.specs.Difference.{hasCode}
 use Rattle.packet.specs.Csrc.{noList}
+use Rattle.packet.specs.Ranges.{ListInRange, HeaderInRange, Sendable, PartsFit}
+use Rattle.packet.specs.RangesLaws.{range-noList}
 use Rattle.packet.specs.declared.csrc.Csrc.{Csrc}
 use Rattle.packet.specs.declared.header.Header.{Header}
 use Rattle.packet.specs.declared.parts.Parts.{Parts}
 use Rattle.context.specs.Compressor.{begun, reset, adoptsTimestamp, judged, dueNow, anyDue, kindOf, listIf, partsOf, deltasAfter, moved, sentWith, sentFrom, stepOf}
-use Rattle.context.specs.Range.{HeaderFits, Held, Sendable, PartsFit, PartsSound, Bare}
-use Rattle.context.specs.Sound.{soundList, soundLink, soundCompressor}
+use Rattle.context.specs.Range.{Held}
+use Rattle.context.specs.Sound.{soundLink, soundCompressor}
 use Rattle.context.specs.declared.compressor.Usage.the-variants.{Live}
 use Rattle.context.specs.declared.compressor.CompressorContext.{CompressorContext}
 use Rattle.context.specs.declared.step.DueNow.{DueNow}
@@ -23,24 +23,21 @@ use Rattle.context.specs.declared.step.Kind.the-variants.{FullHeader, Co
 use Rattle.context.proofs.Tests.{cond-when, cond-both, adoptsTimestamp-coded, NoneDue, anyDue-false}
 use Rattle.context.proofs.Ready.{ready-held}
 use Rattle.context.proofs.Lost.{moved-held}
-use Rattle.context.proofs.SoundFacts.{UsedBounds, hasCode-zero, soundList-none, bounds-soundLink}
+use Rattle.context.proofs.Arrives.{checksum-back}
+use Rattle.context.proofs.SoundFacts.{UsedBounds, hasCode-zero, bounds-soundLink}
 use Rattle.context.proofs.CompressorSound.{ready-bounds, soundCompressor-bounds}
 
 ---- Sendable
 
 sendable-if : (w : ℕ) (due : Bool) (x : ℕ) → 0 < 2 ^ w → x < 2 ^ w → Sendable w due (cond due x 0)
-sendable-if w true x z h = record { fits = h; none = λ e. absurd (true≢false e) }
-sendable-if w false x z h = record { fits = z; none = λ e. refl }
+sendable-if w true x z h = record { fits = h; blank = refl }
+sendable-if w false x z h = record { fits = z; blank = refl }
 
 ---- listIf
 
-list-sound : (any : Bool) (l : Csrc) → soundList l ≡ true → soundList (listIf any l) ≡ true
+list-range : (any : Bool) (l : Csrc) → ListInRange l → ListInRange (listIf any l)
 unfolding listIf
-list-sound any l s = cond-both (λ (x : Csrc). soundList x ≡ true) any l noList s soundList-none
-
-list-words : (any : Bool) (l : Csrc) → length (l .words) ≡ 15 → length (listIf any l .words) ≡ 15
-unfolding listIf
-list-words any l s = cond-both (λ (x : Csrc). length (x .words) ≡ 15) any l noList s refl
+list-range any l r = cond-both (λ (x : Csrc). ListInRange x) any l noList r range-noList
 
 list-unlisted : (any : Bool) (l : Csrc) → any ≡ false → listIf any l ≡ noList
 unfolding listIf
@@ -49,30 +46,38 @@ list-unlisted false l e = refl
 
 ---- sentFrom
 
-module _ (n : ℕ) (h : Header) (c : CompressorContext) (fits : HeaderFits h) (held : Held c) (bounds : UsedBounds n c) where
-  sent-fits : PartsFit (sentFrom n h c .context .blank) (sentFrom n h c .parts)
+module _ (n : ℕ) (h : Header) (c : CompressorContext) (fits : HeaderInRange h) (held : Held c) (bounds : UsedBounds n c) where
+  sent-fits : PartsFit (not (sentFrom n h c .context .blank)) (sentFrom n h c .parts)
   unfolding sentWith partsOf moved deltasAfter judged
   sent-fits =
       let d : DueNow = dueNow (c .due) (judged h c) in
       let k : Held (moved n h c (judged h c)) = moved-held n h c fits held in
       record {
-        checksum = fits .checksum;
-        absent = λ e. eqb-true (h .checksum) 0 e;
-        id = sendable-if 16 (d .id) (h .ip .id) (omega arith) (fits .id);
-        sequence = sendable-if 16 (d .sequence) (h .rtp .sequence) (omega arith) (fits .sequence);
-        timestamp = sendable-if 32 (d .timestamp) (h .rtp .timestamp) (omega arith) (fits .timestamp);
-        payload = sendable-if 7 (d .payload) (h .rtp .payload) (omega arith) (omega (arith, fits .payload));
+        checksum = record { fits = fits .checksum; blank = checksum-back (eqb (h .checksum) 0) (h .checksum) refl };
+        id = sendable-if 16 (d .id) (h .ip .id) (omega arith) (fits .ip .id);
+        sequence = sendable-if 16 (d .sequence) (h .rtp .sequence) (omega arith) (fits .rtp .sequence);
+        timestamp = sendable-if 32 (d .timestamp) (h .rtp .timestamp) (omega arith) (fits .rtp .timestamp);
+        payload = sendable-if 7 (d .payload) (h .rtp .payload) (omega arith) (fits .rtp .payload);
         did = sendable-if 16 (d .did) (moved n h c (judged h c) .deltas .id) (omega arith) (k .did);
         dsn = sendable-if 16 false 0 (omega arith) (omega arith);
         dts = sendable-if 32 (d .dts) (moved n h c (judged h c) .deltas .timestamp) (omega arith) (k .dts);
-        coded = cond-both (λ (x : ℕ). hasCode 32 x ≡ true) (d .dts) _ 0
+        coded = λ e. cond-both (λ (x : ℕ). hasCode 32 x ≡ true) (d .dts) _ 0
             (cond-when (λ (x : ℕ). hasCode 32 x ≡ true) (adoptsTimestamp h c) _ _ (adoptsTimestamp-coded h c) (bounds .coded)) hasCode-zero;
-        list = list-sound (anyDue d) (h .csrc) (fits .list);
-        words = list-words (anyDue d) (h .csrc) (fits .words);
-        unlisted = list-unlisted (anyDue d) (h .csrc);
+        list = list-range (anyDue d) (h .csrc) (fits .csrc);
       }
 
 ---- kindOf
+
+-- parts with nothing but the marker and the checksum, as a CR of the compressor has them
+pub record Bare (p : Parts) : Type 0 where
+  pub id : p .id .sent ≡ false
+  pub sequence : p .sequence .sent ≡ false
+  pub timestamp : p .timestamp .sent ≡ false
+  pub payload : p .payload .sent ≡ false
+  pub did : p .did .sent ≡ false
+  pub dsn : p .dsn .sent ≡ false
+  pub dts : p .dts .sent ≡ false
+  pub listed : p .listed ≡ false
 
 full-udp : FullHeader ≡ CompressedUdp → ⊥
 full-udp e = let z : _≡_ {A = ℕ} 0 1 = cc in absurd (omega arith)
@@ -97,7 +102,8 @@ kind-rtp false false e = refl
 
 module _ (n : ℕ) (h : Header) (s : CompressorContext) where
   -- what a CU or CR carries can be written; a full header's parts are not sent
-  pub parts-step : HeaderFits h → Held s → s .status ≡ Live → soundCompressor n s ≡ true → PartsFit (stepOf n h s .context .blank) (stepOf n h s .parts)
+  pub parts-step : HeaderInRange h → Held s → s .status ≡ Live → soundCompressor n s ≡ true
+      → PartsFit (not (stepOf n h s .context .blank)) (stepOf n h s .parts)
   unfolding stepOf
   parts-step f k u b = sent-fits n h (reset (begun n h s)) f (ready-held n h s k) (ready-bounds n h s (soundCompressor-bounds n s u b))
 
@@ -110,6 +116,9 @@ module _ (n : ℕ) (h : Header) (s : CompressorContext) where
   pub list-step : stepOf n h s .parts .csrc ≡ listIf (stepOf n h s .parts .listed) (h .csrc)
   unfolding stepOf sentWith partsOf
   list-step = refl
+
+  pub step-unlisted : stepOf n h s .parts .listed ≡ false → stepOf n h s .parts .csrc ≡ noList
+  step-unlisted e = list-step ∙ list-unlisted (stepOf n h s .parts .listed) (h .csrc) e
 
   -- a CU has the list, and no difference of the sequence
   pub cu-listed : stepOf n h s .kind ≡ CompressedUdp → stepOf n h s .parts .listed ≡ true
@@ -128,9 +137,3 @@ module _ (n : ℕ) (h : Header) (s : CompressorContext) where
       let none : anyDue now ≡ false = kind-rtp (ltb 0 (reset (begun n h s) .due .full)) (anyDue now) e in
       let d : NoneDue now = anyDue-false now none in
       record { id = d .id; sequence = d .sequence; timestamp = d .timestamp; payload = d .payload; did = d .did; dsn = refl; dts = d .dts; listed = none }
-
----- PartsFit
-
--- parts that can be written leave the decompressor's context sound
-pub fit-sound : (blank : Bool) (p : Parts) → PartsFit blank p → PartsSound p
-fit-sound blank p f = record { payload = λ e. omega (arith, f .payload .fits); dts = λ e. f .coded; list = λ e. f .list }

@@ -1,35 +1,22 @@
 -- Iarwennol. Soundness as bounds.
 -- What the tests of soundness tell, and that the bounds are all they ask. Assume nothing.
 -- Used by the laws of sound steps, and by the crates above, whose code relies on these bounds.
-use Prim.Native.Nat.{ℕ, _+_, _%_, _≤_}
+use Prim.Native.Nat.{ℕ, _+_, _-_, _%_, _≤_}
 use mathlib.Core.Path.{_≡_, refl}
-use mathlib.Core.Bool.{Bool, true, _&&_, and-eq-true-iff}
+use mathlib.Core.Bool.{true, and-eq-true-iff}
 use lib.Dec.{eqb, leb}
 use lib.ListN.{drop}
 use borrow.Author.Tests.{leb-true, le-leb}
 use Rattle.codes.specs.Difference.{hasCode}
-use Rattle.packet.specs.Csrc.{noList}
+use Rattle.packet.specs.Ranges.{ListSound}
+use Rattle.packet.proofs.Chain.{all-of-eight}
 use Rattle.packet.specs.declared.csrc.Csrc.{Csrc}
-use Rattle.context.specs.Sound.{zeros, soundList, soundLink, soundDue, usedSound, filledSound}
+use Rattle.context.specs.Sound.{isZero, zeros, soundList, soundLink, soundDue, usedSound, filledSound}
 use Rattle.context.specs.declared.kept.Link.{Link}
 use Rattle.context.specs.declared.compressor.Due.{Due}
 use Rattle.context.specs.declared.compressor.CompressorContext.{CompressorContext}
 use Rattle.context.specs.declared.decompressor.DecompressorContext.{DecompressorContext}
-
----- _&&_
-
--- a shorter chain is one that starts with `true`s
-all-of-eight : (a b c d e f g h : Bool) → (a && b && c && d && e && f && g && h) ≡ true →
-    (a ≡ true) × (b ≡ true) × (c ≡ true) × (d ≡ true) × (e ≡ true) × (f ≡ true) × (g ≡ true) × (h ≡ true)
-all-of-eight a b c d e f g h k =
-    let o = (and-eq-true-iff (a && b && c && d && e && f && g) h) .0 k in
-    let p = (and-eq-true-iff (a && b && c && d && e && f) g) .0 (o .0) in
-    let q = (and-eq-true-iff (a && b && c && d && e) f) .0 (p .0) in
-    let r = (and-eq-true-iff (a && b && c && d) e) .0 (q .0) in
-    let s = (and-eq-true-iff (a && b && c) d) .0 (r .0) in
-    let t = (and-eq-true-iff (a && b) c) .0 (s .0) in
-    let u = (and-eq-true-iff a b) .0 (t .0) in
-    (u .0, u .1, t .1, s .1, r .1, q .1, p .1, o .1)
+use Rattle.context.proofs.AllLaws.{all-replicate}
 
 ---- hasCode
 
@@ -44,9 +31,10 @@ pub soundList-count : (l : Csrc) → soundList l ≡ true → l .count ≤ 15
 unfolding soundList
 soundList-count l e = leb-true (l .count) 15 ((and-eq-true-iff (leb (l .count) 15) (zeros (drop (l .count) (l .words)))) .0 e .0)
 
-pub soundList-none : soundList noList ≡ true
+-- what the readers of a list promise is all that the test asks
+pub soundList-made : (l : Csrc) → ListSound l → soundList l ≡ true
 unfolding soundList
-soundList-none = refl
+soundList-made l s = rw (le-leb (l .count) 15 (s .count), s .blank) (all-replicate isZero (15 - l .count) 0 refl)
 
 ---- soundLink
 

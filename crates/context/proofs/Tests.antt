@@ -8,6 +8,7 @@ use native.Mathlib.Omega.{arith}
 use lib.Dec.{eqb, ltb}
 use borrow.Author.Tests.{eqb-true, ne-eqb, ltb-false}
 use Rattle.codes.specs.Difference.{hasCode}
+use Rattle.packet.proofs.Chain.{all-of-eight}
 use Rattle.packet.specs.declared.header.Header.{Header}
 use Rattle.context.specs.Field.{offPattern, isDue}
 use Rattle.context.specs.Compressor.{sameBit, sameConstants, mayAdopt, differences, repeatsId, repeatsTimestamp, adoptsId, adoptsTimestamp, anyDue}
@@ -45,28 +46,20 @@ pub record SameConstants (h : Header) (c : CompressorContext) : Type 0 where
   pub extension : h .rtp .extension ≡ c .rtp .extension
   pub blank : eqb (h .checksum) 0 ≡ c .blank
 
-all-of-six : (a b c d e f : Bool) → (a && b && c && d && e && f) ≡ true → (a ≡ true) × (b ≡ true) × (c ≡ true) × (d ≡ true) × (e ≡ true) × (f ≡ true)
-all-of-six a b c d e f h =
-    let p = (and-eq-true-iff (a && b && c && d && e) f) .0 h in
-    let q = (and-eq-true-iff (a && b && c && d) e) .0 (p .0) in
-    let r = (and-eq-true-iff (a && b && c) d) .0 (q .0) in
-    let s = (and-eq-true-iff (a && b) c) .0 (r .0) in
-    let t = (and-eq-true-iff a b) .0 (s .0) in
-    (t .0, t .1, s .1, r .1, q .1, p .1)
-
 module _ (h : Header) (c : CompressorContext) where
   pub same-constants : sameConstants h c ≡ true → SameConstants h c
   unfolding sameConstants
   same-constants e =
-      let a = all-of-six (eqb (h .ip .tos) (c .ip .tos)) (eqb (h .ip .ttl) (c .ip .ttl)) (eqb (h .ip .flags) (c .ip .flags))
+      let a = all-of-eight true true
+      (eqb (h .ip .tos) (c .ip .tos)) (eqb (h .ip .ttl) (c .ip .ttl)) (eqb (h .ip .flags) (c .ip .flags))
       (sameBit (h .rtp .padding) (c .rtp .padding)) (sameBit (h .rtp .extension) (c .rtp .extension)) (sameBit (eqb (h .checksum) 0) (c .blank)) e in
       record {
-        tos = eqb-true _ _ (a .0);
-        ttl = eqb-true _ _ (a .1);
-        flags = eqb-true _ _ (a .2);
-        padding = sameBit-true _ _ (a .3);
-        extension = sameBit-true _ _ (a .4);
-        blank = sameBit-true _ _ (a .5);
+        tos = eqb-true _ _ (a .2);
+        ttl = eqb-true _ _ (a .3);
+        flags = eqb-true _ _ (a .4);
+        padding = sameBit-true _ _ (a .5);
+        extension = sameBit-true _ _ (a .6);
+        blank = sameBit-true _ _ (a .7);
       }
 
   ---- adoptsId, adoptsTimestamp

@@ -2,7 +2,6 @@ pub mod Field
 pub mod Compressor
 pub mod Decompressor
 pub mod All
-pub mod AllLaws
 pub mod Sound
 pub mod Range
 pub mod Relation

@@ -1,6 +1,5 @@
 -- Iarwennol. The theorem, and what it rests on.
 mod Lists
-mod Ranges
 mod Steps
 mod Arrivals
 mod Requests

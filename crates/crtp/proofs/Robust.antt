@@ -15,10 +15,11 @@ use Rattle.codes.specs.Bytes.{AllBytes}
 use Rattle.settings.specs.Settings as settings
 use Rattle.settings.specs.declared.Settings.{Settings}
 use Rattle.settings.specs.SettingsLaws.{range-repeats, range-most}
+use Rattle.packet.specs.Ranges.{HeaderInRange}
 use Rattle.headers.specs.Header.{headerOf}
 use Rattle.headers.specs.HeaderLaws.{headerOf-range}
 use Rattle.links.specs.FhLaws.{FhFits}
-use Rattle.context.specs.AllLaws.{all-at}
+use Rattle.context.proofs.AllLaws.{all-at}
 use Rattle.context.specs.Range as context
 use Rattle.context.specs.Sound.{soundCompressor, emptyCompressor, emptyDecompressor}
 use Rattle.context.specs.Compressor.{skips, startedUnlessDue, requestedBy, requested}
@@ -44,12 +45,11 @@ use Rattle.decompressor.specs.Table as decompressing
 use Rattle.decompressor.specs.TableLaws as decompressing·laws
 use Rattle.decompressor.specs.Receive.{receiveOf}
 use Rattle.decompressor.specs.ReceiveLaws.{receive-plain}
-use Rattle.decompressor.specs.ReceiveSound.{named, Leaves, receive-leaves, leaves-sound, leaves-settings, leaves-length, leaves-other}
+use Rattle.decompressor.proofs.ReceiveSound.{named, Leaves, receive-leaves, leaves-sound, leaves-settings, leaves-length, leaves-other}
 use Rattle.calls.specs.Calls as calls
 use Rattle.calls.proofs.Faithful.{Laws, ready, faithful}
 use Rattle.crtp.specs.Robust.{Bytes, Rebuilt, Call, World, Opened, Premises, Robust}
 use Rattle.crtp.proofs.Lists.{Frame, frameOf, frameContext, ends, callOf, start, start-lawful, start-bounded, exact-faithful}
-use Rattle.crtp.proofs.Ranges.{fits-header}
 use Rattle.crtp.proofs.Steps.{stepOn-lost, stepOn-arrives, stepOn-udp, stepOn-rtp, stepOn-count}
 use Rattle.crtp.proofs.Arrivals.{receive-sent}
 use Rattle.crtp.proofs.Requests.{request-asks, asks-keeps-sound, Asks}
@@ -107,7 +107,7 @@ module _ (n k : ℕ) where
       after = compressing.withContext t i (stepAt t (p .list) i .context)
 
       -- the tables' own part of the relation
-      on-table : (d′ : decompressor.Table) → d′ .settings ≡ d .settings → decompressing·laws.Sound d′ → length (d′ .contexts) ≡ 64
+      on-table : (d′ : decompressor.Table) → d′ .settings ≡ d .settings → decompressing.Sound d′ → length (d′ .contexts) ≡ 64
           → (j′ : ℕ) → Related n j′ (decompressing.contextAt d′ c) (compressing.contextAt after c) → Rel n k c j′ d′ after
       on-table d′ e s l j′ x = record {
         settings = r .settings;
@@ -138,8 +138,8 @@ module _ (n k : ℕ) where
       few-contexts : t .settings .contexts ≤ 64
       few-contexts = range-most (t .settings .repeats) (t .settings .contexts) (r .soundC .settings)
 
-      fits : context.HeaderFits (headerOf (p .list))
-      fits = fits-header (headerOf-range (p .small))
+      fits : HeaderInRange (headerOf (p .list))
+      fits = headerOf-range (p .small)
 
       here-lost : suc j ≤ n → Related n (suc j) (decompressing.contextAt d c) (stepAt t (p .list) c .context)
       here-lost few =

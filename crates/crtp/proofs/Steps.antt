@@ -1,13 +1,14 @@
 -- Iarwennol. A packet on its context, the first or a later one: one law for both, from the laws of one context. Assumes nothing.
 -- Used by the laws of the two ends (Arrivals, Tables).
-use Prim.Native.Nat.{ℕ, zero, suc, _%_, _^_, _≤_, _<_}
+use Prim.Native.Nat.{ℕ, suc, _%_, _^_, _≤_, _<_}
 use mathlib.Core.Path.{_≡_, refl, sym, ap, _∙_}
 use mathlib.Core.Bool.{Bool, true, false, not, _&&_, and-eq-true-iff}
 use native.Mathlib.Omega.{arith}
 use lib.Dec.{eqb}
-use lib.ListN.{getD, replicate}
+use lib.ListN.{getD}
+use Rattle.packet.specs.Ranges.{HeaderInRange, PartsFit}
 use Rattle.packet.specs.declared.header.Header.{Header}
-use Rattle.links.specs.Fits as links
+use Rattle.links.specs.FitsLaws as links
 use Rattle.context.specs.Compressor.{firstStep, stepOf, listIf, partsOf, reset, begun}
 use Rattle.context.specs.Range as context
 use Rattle.context.specs.Relation.{Related, Arrives}
@@ -25,18 +26,12 @@ use Rattle.context.proofs.Ready.{ready-held}
 use Rattle.context.proofs.Arrives.{related-arrives}
 use Rattle.context.proofs.Others.{related-first-lost, related-first-arrives}
 use Rattle.context.proofs.CompressorSound.{sound-first, sound-step}
-use Rattle.context.proofs.PartsLaws.{parts-step, link-step, list-step, cu-listed, step-dsn, cr-bare}
+use Rattle.context.proofs.PartsLaws.{parts-step, link-step, list-step, step-unlisted, cu-listed, step-dsn, cr-bare}
 use Rattle.context.proofs.SoundFacts.{LinkBounds, soundLink-bounds}
 use Rattle.compressor.specs.Send.{stepBy, stepOn}
-use Rattle.crtp.proofs.Ranges.{fits-parts}
 
 abbrev fresh : Link
 fresh = record { sequence = 0; generation = 0 }
-
-zeros-each : (n i : ℕ) → getD (replicate n 0) i 0 < 2 ^ 32
-zeros-each zero i = omega arith
-zeros-each (suc n) zero = omega arith
-zeros-each (suc n) (suc i) = zeros-each n i
 
 not-second : (m q t d : Bool) → q ≡ false → (m && q && t && d) ≡ true → ⊥
 not-second m q t d e f =
@@ -78,7 +73,7 @@ module _ (n : ℕ) (h : Header) (s : CompressorContext) where
   pub stepOn-count : stepOn n h s .parts .csrc .count ≤ h .csrc .count
   stepOn-count = step-by (λ a. a .parts .csrc .count ≤ h .csrc .count) first-count (λ live. rw (list-step n h s) (list-count (stepOf n h s .parts .listed)))
 
-  module _ (fits : context.HeaderFits h) where
+  module _ (fits : HeaderInRange h) where
     first-lost : (j : ℕ) (v : DecompressorContext) → suc j ≤ n → Related n (suc j) v (firstStep n h fresh .context)
     unfolding firstStep
     first-lost j v few = related-first-lost n j v h fresh fits few
@@ -109,16 +104,8 @@ module _ (n : ℕ) (h : Header) (s : CompressorContext) where
     ---- what a CU or CR carries can be written
 
     module _ (each : (i : ℕ) → getD (h .csrc .words) i 0 < 2 ^ 32) (held : context.Held s) (sound : soundCompressor n s ≡ true) where
-      list-each : (b : Bool) (i : ℕ) → getD (listIf b (h .csrc) .words) i 0 < 2 ^ 32
-      unfolding listIf
-      list-each true i = each i
-      list-each false i = zeros-each 15 i
-
-      step-each : (i : ℕ) → getD (stepOf n h s .parts .csrc .words) i 0 < 2 ^ 32
-      step-each i = rw (list-step n h s) (list-each (stepOf n h s .parts .listed) i)
-
-      step-fits : s .status ≡ Live → links.PartsFit (not (stepOf n h s .context .blank)) (stepOf n h s .parts)
-      step-fits live = fits-parts (parts-step n h s fits held live sound) step-each
+      step-fits : s .status ≡ Live → PartsFit (not (stepOf n h s .context .blank)) (stepOf n h s .parts)
+      step-fits live = parts-step n h s fits held live sound
 
       step-small : s .status ≡ Live → stepOf n h s .link .sequence < 16
       step-small live = omega (arith, soundLink-bounds (stepOf n h s .link) (link-step n h s live sound) .sequence)
@@ -136,7 +123,7 @@ module _ (n : ℕ) (h : Header) (s : CompressorContext) where
             sequence = b .sequence;
             timestamp = b .timestamp;
             payload = b .payload;
-            unlisted = parts-step n h s fits held live sound .unlisted;
+            unlisted = step-unlisted n h s;
             second = λ e. absurd (not-second (stepOf n h s .parts .marker) (stepOf n h s .parts .dsn .sent) (stepOf n h s .parts .dts .sent) (stepOf n h s .parts .did .sent) (b .dsn) e);
           }
 

@@ -13,15 +13,15 @@ use lib.Seq.{getD-set-same, getD-set-other, take-append-seam}
 use Rattle.codes.specs.Bytes.{AllBytes}
 use Rattle.codes.specs.BytesLaws.{allBytes-append}
 use Rattle.codes.specs.Reading.{byteAt}
+use Rattle.codes.proofs.BytesRead.{allBytes-drop}
+use Rattle.packet.specs.Ranges.{HeaderInRange}
 use Rattle.packet.specs.declared.header.Header.{Header}
 use Rattle.settings.specs.Settings as settings
 use Rattle.settings.specs.SettingsLaws.{range-repeats, range-most}
 use Rattle.settings.specs.declared.Settings.{Settings}
-use Rattle.headers.specs.Range.{HeaderInRange}
 use Rattle.headers.specs.Header.{headerOf, flowOf, headerSize}
 use Rattle.headers.specs.CompressibleLaws.{compressible-true}
 use Rattle.headers.specs.HeaderLaws.{headerOf-range}
-use Rattle.headers.specs.BytesLaws.{allBytes-drop}
 use Rattle.links.specs.Fh.{fhBytes, fhOf}
 use Rattle.links.specs.FhLaws.{FhFits, allBytes-fhBytes, fhOf-fhBytes}
 use Rattle.links.specs.declared.fh.FullHeader as fh
@@ -29,7 +29,7 @@ use Rattle.links.specs.Cu.{cuBytes}
 use Rattle.links.specs.CuLaws.{contextOf-cuBytes, allBytes-cuBytes}
 use Rattle.links.specs.Cr.{crBytes}
 use Rattle.links.specs.CrLaws.{contextOf-crBytes, allBytes-crBytes}
-use Rattle.context.specs.AllLaws.{all-at}
+use Rattle.context.proofs.AllLaws.{all-at}
 use Rattle.context.specs.Range as context
 use Rattle.context.specs.Relation.{Related, Arrives}
 use Rattle.context.specs.Sound.{soundCompressor, soundDecompressor}
@@ -45,10 +45,8 @@ use Rattle.compressor.specs.Send.{linkBy, linkBytes, sentBytes, kindNumber, ste
 use Rattle.compressor.specs.SendLaws.{On, stepAt}
 use Rattle.decompressor.specs.declared.table.Table as decompressor
 use Rattle.decompressor.specs.Table as decompressing
-use Rattle.decompressor.specs.TableLaws as receiving
-use Rattle.decompressor.specs.ReceiveSound.{named}
+use Rattle.decompressor.proofs.ReceiveSound.{named}
 use Rattle.crtp.proofs.Lists.{frameContext}
-use Rattle.crtp.proofs.Ranges.{fits-header}
 use Rattle.crtp.proofs.Steps.{stepOn-sound, stepOn-held, stepOn-udp, stepOn-rtp, stepOn-link}
 
 -- the tables at context c, when j packets on it were lost since the last accepted one. Sound, of the same settings, every number of the
@@ -56,8 +54,8 @@ use Rattle.crtp.proofs.Steps.{stepOn-sound, stepOn-held, stepOn-udp, st
 pub record Rel (n k c j : ℕ) (d : decompressor.Table) (t : compressor.Table) : Type 0 where
   pub settings : t .settings ≡ record { repeats = n; contexts = k }
   pub shared : d .settings ≡ t .settings
-  pub soundC : sending.Sound t
-  pub soundD : receiving.Sound d
+  pub soundC : compressing.Sound t
+  pub soundD : decompressing.Sound d
   pub sizeC : length (t .contexts) ≡ 64
   pub sizeD : length (d .contexts) ≡ 64
   pub held : (i : ℕ) → context.Held (compressing.contextAt t i)
@@ -65,7 +63,7 @@ pub record Rel (n k c j : ℕ) (d : decompressor.Table) (t : compressor.Table) :
 
 ---- The compressor's table after a packet on context i
 
-module _ (t : compressor.Table) (p : List ℕ) (small : AllBytes p) (i : ℕ) (on : On t p i) (sound : sending.Sound t) (size : length (t .contexts) ≡ 64)
+module _ (t : compressor.Table) (p : List ℕ) (small : AllBytes p) (i : ℕ) (on : On t p i) (sound : compressing.Sound t) (size : length (t .contexts) ≡ 64)
     (held : (i : ℕ) → context.Held (compressing.contextAt t i)) where
   abbrev n : ℕ
   n = t .settings .repeats
@@ -98,14 +96,14 @@ module _ (t : compressor.Table) (p : List ℕ) (small : AllBytes p) (i : ℕ) (o
   unfolding headerOf flowOf
   even-port = eq-eqb _ _ (compressible-true p (on .compressible) .even)
 
-  pub on-sound : sending.Sound (compressing.withContext t i (a .context))
-  on-sound = sending.sound-withContext t i (a .context) sound (on .place .among) (stepOn-sound n h s (fits-header range) even-port context-sound)
+  pub on-sound : compressing.Sound (compressing.withContext t i (a .context))
+  on-sound = sending.sound-withContext t i (a .context) sound (on .place .among) (stepOn-sound n h s range even-port context-sound)
 
   pub on-held : (c : ℕ) → context.Held (compressing.contextAt (compressing.withContext t i (a .context)) c)
   on-held c = by (eqb c i) refl
     where
       by : (b : Bool) → eqb c i ≡ b → context.Held (compressing.contextAt (compressing.withContext t i (a .context)) c)
-      by true e = rw (eqb-true c i e, getD-set-same (t .contexts) i (a .context) compressing.noContext there) (stepOn-held n h s (fits-header range) (held i))
+      by true e = rw (eqb-true c i e, getD-set-same (t .contexts) i (a .context) compressing.noContext there) (stepOn-held n h s range (held i))
       by false e = rw (getD-set-other (t .contexts) i c (a .context) compressing.noContext (eqb-false c i e)) (held c)
 
   pub on-size : length (compressing.withContext t i (a .context) .contexts) ≡ 64
@@ -121,7 +119,7 @@ module _ (t : compressor.Table) (p : List ℕ) (small : AllBytes p) (i : ℕ) (o
 
   pub on-full : FhFits (t .settings .contexts) i (a .link .generation) (a .link .sequence) h
   on-full =
-      let b = stepOn-link n h s (fits-header range) (range .csrc .each) (held i) context-sound in
+      let b = stepOn-link n h s range (range .csrc .each) (held i) context-sound in
       record { few = omega (arith, few-contexts); known = on .place .among; young = omega (arith, b .generation); small = omega (arith, b .sequence); range = range }
 
   byte-sized : i < 256
@@ -130,9 +128,9 @@ module _ (t : compressor.Table) (p : List ℕ) (small : AllBytes p) (i : ℕ) (o
   link-bytes : (k : Kind) → a .kind ≡ k → AllBytes (linkBy k i (length p) h a)
   link-bytes FullHeader e = allBytes-fhBytes (t .settings .contexts) i (a .link .generation) (a .link .sequence) (length p) h on-full
   link-bytes CompressedUdp e =
-      allBytes-cuBytes i (a .link .sequence) (not (a .context .blank)) (a .parts) (stepOn-udp n h s (fits-header range) (range .csrc .each) (held i) context-sound e) byte-sized
+      allBytes-cuBytes i (a .link .sequence) (not (a .context .blank)) (a .parts) (stepOn-udp n h s range (range .csrc .each) (held i) context-sound e) byte-sized
   link-bytes CompressedRtp e =
-      allBytes-crBytes i (a .link .sequence) (not (a .context .blank)) (a .parts) (stepOn-rtp n h s (fits-header range) (range .csrc .each) (held i) context-sound e) byte-sized
+      allBytes-crBytes i (a .link .sequence) (not (a .context .blank)) (a .parts) (stepOn-rtp n h s range (range .csrc .each) (held i) context-sound e) byte-sized
 
   pub on-bytes : AllBytes (sentBytes i p h a)
   unfolding linkBytes
@@ -148,9 +146,9 @@ module _ (t : compressor.Table) (p : List ℕ) (small : AllBytes p) (i : ℕ) (o
   named-by : (k : Kind) → a .kind ≡ k → named (kindNumber k) (linkBy k i (length p) h a ++ drop (headerSize h) p) ≡ i
   named-by FullHeader e = full-context
   named-by CompressedUdp e =
-      contextOf-cuBytes i (a .link .sequence) (not (a .context .blank)) (a .parts) (stepOn-udp n h s (fits-header range) (range .csrc .each) (held i) context-sound e) (drop (headerSize h) p)
+      contextOf-cuBytes i (a .link .sequence) (not (a .context .blank)) (a .parts) (stepOn-udp n h s range (range .csrc .each) (held i) context-sound e) (drop (headerSize h) p)
   named-by CompressedRtp e =
-      contextOf-crBytes i (a .link .sequence) (not (a .context .blank)) (a .parts) (stepOn-rtp n h s (fits-header range) (range .csrc .each) (held i) context-sound e) (drop (headerSize h) p)
+      contextOf-crBytes i (a .link .sequence) (not (a .context .blank)) (a .parts) (stepOn-rtp n h s range (range .csrc .each) (held i) context-sound e) (drop (headerSize h) p)
 
   pub on-named : named (kindNumber (a .kind)) (sentBytes i p h a) ≡ i
   unfolding linkBytes

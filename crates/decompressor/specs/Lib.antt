@@ -4,5 +4,3 @@ pub mod TableLaws
 pub mod Receive
 pub mod ReceiveLaws
 pub mod PacketLaws
-pub mod RangeLaws
-pub mod ReceiveSound

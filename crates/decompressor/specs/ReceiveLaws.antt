@@ -17,7 +17,7 @@ use Rattle.settings.specs.SettingsLaws.{lengthAllowed-made}
 use Rattle.fields.specs.Place.{good}
 use Rattle.links.specs.declared.head.Head.{Head}
 use Rattle.links.specs.declared.head.ReadParts.{ReadParts}
-use Rattle.links.specs.Fits.{CuFits, CrFits}
+use Rattle.links.specs.FitsLaws.{CuFits, CrFits}
 use Rattle.links.specs.Head.{contextOf, headOf}
 use Rattle.links.specs.Cu.{cuBytes, cuFlags, cuOf}
 use Rattle.links.specs.CuLaws.{contextOf-cuBytes, headOf-cuBytes, cuOf-cuBytes}

@@ -1,6 +1,3 @@
-pub mod Fits
 pub mod Place
 pub mod Next
 pub mod NextLaws
-pub mod NextRange
-pub mod FlagsRange

@@ -15,8 +15,8 @@ use Rattle.codes.specs.Code.{codeOf}
 use Rattle.codes.specs.Difference.{hasCode}
 use Rattle.codes.specs.Reading.{Reading, accepted, readByte, readWord, readLong, readDelta}
 use Rattle.codes.specs.RoundTrip.{left-after, left-length, readByte-written, readWord-written, readLong-written, readDelta-16, readDelta-32}
+use Rattle.packet.specs.Ranges.{ListInRange}
 use Rattle.packet.specs.declared.csrc.Csrc.{Csrc}
-use Rattle.headers.specs.Range.{ListInRange}
 use Rattle.bytes.specs.Put.{optional, words, listBytes}
 use Rattle.bytes.specs.PutLaws.{words-take}
 use Rattle.fields.specs.declared.place.GotList.{GotList}

@@ -8,14 +8,14 @@ use native.Mathlib.Omega.{arith}
 use lib.ListN.{length, take, drop}
 use Rattle.codes.specs.Bytes.{AllBytes, bigEndian}
 use Rattle.codes.specs.Reading.{byteAt, wordAt, longAt}
+use Rattle.codes.proofs.BytesRead.{allBytes-byteAt, wordAt-bigEndian}
+use Rattle.packet.specs.Ranges.{HeaderInRange}
 use Rattle.packet.specs.declared.header.Header.{Header}
 use Rattle.bytes.specs.Sum.{plus, sumOf, wordsOf, complement}
 use Rattle.bytes.specs.SumLaws.{wordsOf-part}
 use Rattle.headers.specs.Header.{headerOf, flowOf, ipOf, headerBytes, ipFront, ipBack}
 use Rattle.headers.specs.Checksum.{ipChecksumOf, ipChecksum, highWord, lowWord}
 use Rattle.headers.specs.Compressible.{fixedForm}
-use Rattle.headers.specs.Range.{HeaderInRange}
-use Rattle.headers.specs.BytesLaws.{allBytes-byteAt, wordAt-bigEndian}
 use Rattle.headers.specs.CompressibleLaws.{fixedForm-true}
 
 ---- the two words of a number of 32 bits

@@ -10,24 +10,21 @@ use lib.ListN.{length, take, drop, replicate}
 use Rattle.codes.specs.Bytes.{AllBytes, more, bigEndian}
 use Rattle.codes.specs.BytesLaws.{allBytes-append, allBytes-bigEndian}
 use Rattle.codes.specs.Reading.{byteAt, wordAt}
+use Rattle.codes.proofs.BytesRead.{allBytes-byteAt, wordAt-lt, longAt-lt, places, places-drop}
+use Rattle.codes.proofs.BytesRead.{wordAt-bigEndian, longAt-bigEndian, bigEndian-wordAt, bigEndian-longAt}
+use Rattle.packet.specs.Ranges.{HeaderInRange, FlowInRange, IpInRange, RtpInRange, ListInRange, Narrow}
 use Rattle.packet.specs.declared.header.Header.{Header}
 use Rattle.bytes.specs.Flags.{bitAt, digit, byteOf, flagsOf}
-use Rattle.bytes.specs.FlagsLaws.{flagsOf-byteOf}
+use Rattle.bytes.specs.FlagsLaws.{digit-lt, flagsOf-byteOf}
 use Rattle.bytes.specs.Put.{listBytes}
 use Rattle.bytes.specs.PutLaws.{allBytes-words}
 use Rattle.headers.specs.Header.{countAt, rtpAt, flowOf, ipOf, headerOf, ipFront, ipBack, udpBytes, rtpFirst, rtpFixed, headerBytes, headerSize, longs}
 use Rattle.headers.specs.Compressible.{fixedForm}
-use Rattle.headers.specs.Range.{HeaderInRange, FlowInRange, IpInRange, RtpInRange, ListInRange, Narrow}
-use Rattle.headers.specs.BytesLaws.{allBytes-byteAt, wordAt-lt, longAt-lt, wordAt-bigEndian, longAt-bigEndian, bigEndian-wordAt, bigEndian-longAt, places, places-drop}
 use Rattle.headers.specs.ListLaws.{listAt-range, longs-listBytes, listBytes-listAt, length-listBytes}
 use Rattle.headers.specs.ChecksumLaws.{flags-word}
 use Rattle.headers.specs.CompressibleLaws.{FixedForm, fixedForm-true, fixedForm-holds}
 
 ---- the bytes of flags
-
-digit-le : (b : Bool) → digit b ≤ 1
-digit-le true = omega arith
-digit-le false = omega arith
 
 -- a bit that was read, as a number
 digit-eqb : (x : ℕ) → x ≤ 1 → digit (eqb x 1) ≡ x
@@ -124,7 +121,7 @@ module _ (l u k : ℕ) (h : Header) (rest : List ℕ) (r : HeaderInRange h) wher
   ipChecksum-headerBytes b = wordAt-bigEndian k b []
 
   rtpFirst-version : rtpFirst h / 64 ≡ 2
-  rtpFirst-version = omega (arith, digit-le (h .rtp .padding), digit-le (h .rtp .extension))
+  rtpFirst-version = omega (arith, digit-lt (h .rtp .padding), digit-lt (h .rtp .extension))
 
   form-headerBytes : FixedForm (headerBytes l u k h ++ rest)
   unfolding headerBytes ipFront ipBack udpBytes rtpFixed
@@ -171,8 +168,8 @@ module _ (l u k : ℕ) (h : Header) (r : HeaderInRange h) where
   allBytes-rtpFixed : AllBytes (rtpFixed h)
   unfolding rtpFixed
   allBytes-rtpFixed =
-      more {b = rtpFirst h} (omega (arith, digit-le (h .rtp .padding), digit-le (h .rtp .extension)))
-      (more {b = digit (h .marker) * 128 + h .rtp .payload} (omega (arith, digit-le (h .marker)))
+      more {b = rtpFirst h} (omega (arith, digit-lt (h .rtp .padding), digit-lt (h .rtp .extension)))
+      (more {b = digit (h .marker) * 128 + h .rtp .payload} (omega (arith, digit-lt (h .marker)))
       (allBytes-append (allBytes-bigEndian 2 (h .rtp .sequence)) (allBytes-append (allBytes-bigEndian 4 (h .rtp .timestamp)) (allBytes-bigEndian 4 (h .flow .ssrc)))))
 
   pub allBytes-headerBytes : AllBytes (headerBytes l u k h)

@@ -1,8 +1,6 @@
 pub mod Header
 pub mod Checksum
 pub mod Compressible
-pub mod Range
-pub mod BytesLaws
 pub mod ListLaws
 pub mod CompressibleLaws
 pub mod ChecksumLaws

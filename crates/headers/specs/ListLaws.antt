@@ -10,12 +10,13 @@ use lib.ListN.{length, getD, set, take, drop, replicate, take-append-drop, lengt
 use lib.Seq.{append-snoc, length-take-le, getD-drop, drop-drop, set-at, take-at, drop-at}
 use Rattle.codes.specs.Bytes.{AllBytes, bigEndian}
 use Rattle.codes.specs.Reading.{byteAt, longAt}
+use Rattle.codes.proofs.BytesRead.{allBytes-drop, longAt-lt, longAt-bigEndian, bigEndian-longAt, places-drop}
+use Rattle.packet.specs.Ranges.{ListInRange}
+use Rattle.packet.specs.RangesLaws.{zero-words}
 use Rattle.packet.specs.declared.csrc.Csrc.{Csrc}
 use Rattle.bytes.specs.Put.{words, listBytes}
 use Rattle.bytes.specs.PutLaws.{length-words}
 use Rattle.headers.specs.Header.{longs, listAt}
-use Rattle.headers.specs.Range.{ListInRange}
-use Rattle.headers.specs.BytesLaws.{allBytes-drop, longAt-lt, longAt-bigEndian, bigEndian-longAt, places-drop}
 
 ---- longs
 
@@ -73,13 +74,8 @@ set-listAt s at i h =
     ∙ set-at (longs i (drop at s)) 0 (replicate (15 - (i + 1)) 0) (longAt s (at + 4 * i)) i (length-longs i (drop at s))
     ∙ sym (longs-more s at i (replicate (15 - (i + 1)) 0))
 
-zeros-lt : (k i : ℕ) → getD (replicate k 0) i 0 < 2 ^ 32
-zeros-lt zero i = omega arith
-zeros-lt (suc k) zero = omega arith
-zeros-lt (suc k) (suc i) = zeros-lt k i
-
 longs-lt : (n k : ℕ) {s : List ℕ} → AllBytes s → (i : ℕ) → getD (longs n s ++ replicate k 0) i 0 < 2 ^ 32
-longs-lt zero k a i = zeros-lt k i
+longs-lt zero k a i = zero-words k i
 longs-lt (suc n) k a zero = longAt-lt a 0
 longs-lt (suc n) k a (suc i) = longs-lt n k (allBytes-drop 4 a) i
 

@@ -3,7 +3,7 @@ ghost use mathlib.Core.List.{[], _∷_};
 ghost use Prim.Native.Nat.{_<_, _+_, _*_};
 ghost use Rattle.bytes.specs.Sum.{sumOf};
 ghost use Rattle.headers.specs.Checksum.{ipChecksum, highWord, lowWord};
-ghost use Rattle.headers.specs.Range.{Narrow};
+ghost use Rattle.packet.specs.Ranges.{Narrow};
 use bytes::sum::add;
 use packet::header::Header;
 use packet::header::Ip;

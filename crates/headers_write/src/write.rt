@@ -5,7 +5,7 @@ ghost use Rattle.bytes.specs.Flags.{digit};
 ghost use Rattle.bytes.specs.Put.{Wrote};
 ghost use Rattle.headers.specs.Header.{ipFront, ipBack, udpBytes, rtpFirst, rtpFixed, headerBytes, headerSize};
 ghost use Rattle.headers.specs.Checksum.{printed};
-ghost use Rattle.headers.specs.Range.{Narrow};
+ghost use Rattle.packet.specs.Ranges.{Narrow};
 use crate::checksum::fragment_word;
 use crate::checksum::ip_checksum;
 use bytes::flags::Flags;

@@ -2,7 +2,7 @@
 //
 // What it prints is compared with the rules' cases (11.1), which were written down by hand.
 ghost use Prim.Native.Nat.{_≤_};
-ghost use Rattle.headers.specs.Range.{Narrow};
+ghost use Rattle.packet.specs.Ranges.{Narrow};
 use links_write::cr::cr_size;
 use links_write::cr::put_cr;
 use links_write::cu::cu_size;

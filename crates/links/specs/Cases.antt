@@ -2,32 +2,30 @@
 -- Each layout is held against its bytes in both directions; the parts below are shown to fit, so that the round trips speak of them.
 use Prim.Native.Nat.{ℕ, _+_, _^_, _<_}
 use mathlib.Core.Path.{_≡_, refl}
-use mathlib.Core.Bool.{Bool, true, false, _&&_, false≢true, and-eq-true-iff}
+use mathlib.Core.Bool.{true, false, false≢true}
 use mathlib.Core.List.{List, [], _∷_, _++_, map}
 use native.Mathlib.Omega.{arith}
-use borrow.Author.Tests.{ltb-true}
-use lib.Dec.{ltb}
 use lib.ListN.{length, take, drop}
-use Rattle.codes.specs.Bytes.{AllBytes, none, more}
+use Rattle.codes.specs.Bytes.{areBytes}
+use Rattle.codes.specs.BytesLaws.{allBytes-areBytes}
 use Rattle.codes.specs.Code.{codeOf}
 use Rattle.codes.specs.Difference.{difference, hasCode}
 use Rattle.codes.specs.Reading.{readBy, readByte, readWord, readLong}
 use Rattle.codes.specs.Cases as codes
 use Rattle.packet.specs.Csrc.{noList}
+use Rattle.packet.specs.Ranges.{Sendable}
+use Rattle.packet.specs.RangesLaws.{range-noList}
 use Rattle.packet.specs.declared.parts.Parts.{Parts}
 use Rattle.bytes.specs.Sum.{plus}
 use Rattle.headers.specs.Header.{headerOf, flowOf, ipOf, rtpAt, headerBytes, ipFront, ipBack, udpBytes, rtpFixed}
 use Rattle.headers.specs.HeaderLaws.{headerOf-range}
 use Rattle.headers.specs.Checksum.{ipChecksum, ipChecksumOf}
 use Rattle.headers.specs.Compressible.{fixedForm}
-use Rattle.headers.specs.Range.{ListInRange}
 use Rattle.headers.specs.Cases.{sample}
 use Rattle.fields.specs.declared.place.Place.{Place}
-use Rattle.fields.specs.Fits.{Sendable}
-use Rattle.fields.specs.NextRange.{zero-words}
 use Rattle.fields.specs.Next.{next, nextByte, nextWord, nextLong, nextDelta16, nextDelta32, nextPayload, readPayload}
 use Rattle.links.specs.Sent.{none8, none16, none32}
-use Rattle.links.specs.Fits.{CuFits, CrFits}
+use Rattle.links.specs.FitsLaws.{CuFits, CrFits}
 use Rattle.packet.specs.Refusal.{verdictNumber}
 use Rattle.links.specs.Head.{headOf}
 use Rattle.links.specs.Cu.{cuBytes, changesOf, valuesOf, cuRest, cuOf}
@@ -130,9 +128,6 @@ cases-hold = refl
 
 ---- the round trips speak of the cases
 
-no-list : ListInRange noList
-no-list = record { count = omega arith; size = refl; each = zero-words 15; blank = refl }
-
 unsent : (w : ℕ) → 0 < 2 ^ w → Sendable w false 0
 unsent w h = record { fits = h; blank = refl }
 
@@ -148,7 +143,7 @@ quiet-fits = record {
     dsn = unsent 16 (omega arith);
     dts = unsent 32 (omega arith);
     coded = λ e. absurd (false≢true e);
-    list = no-list;
+    list = range-noList;
   };
   small = omega arith;
   id = refl;
@@ -172,7 +167,7 @@ jumped-fits = record {
     dsn = unsent 16 (omega arith);
     dts = record { fits = omega arith; blank = refl };
     coded = λ e. refl;
-    list = no-list;
+    list = range-noList;
   };
   small = omega arith;
   dsn = refl;
@@ -181,17 +176,6 @@ jumped-fits = record {
 
 pub third-fits : StatesFit 64 (third ∷ [])
 third-fits = more-fit {r = third} (record { context = omega arith; link = omega arith; generation = omega arith }) none-fit
-
--- a list that passes a test consists of bytes
-abbrev areBytes : List ℕ → Bool
-areBytes [] = true
-areBytes (b ∷ bs) = ltb b 256 && areBytes bs
-
-allBytes-areBytes : (l : List ℕ) → areBytes l ≡ true → AllBytes l
-allBytes-areBytes [] e = none
-allBytes-areBytes (b ∷ bs) e =
-    let t = and-eq-true-iff (ltb b 256) (areBytes bs) .0 e in
-    more (ltb-true b 256 (t .0)) (allBytes-areBytes bs (t .1))
 
 sample-bytes : areBytes sample ≡ true
 unfolding sample

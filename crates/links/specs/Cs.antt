@@ -1,6 +1,7 @@
 -- Iarwennol. CONTEXT_STATE (rule 6.6): its bytes, and how a request of any bytes is judged (rule 9.2) and read.
 -- Used by the decompressor's report and by the compressor's request.
-use Prim.Native.Nat.{ℕ, zero, suc, _+_, _*_}
+use Prim.Native.Nat.{ℕ, zero, suc, _+_, _*_, _<_}
+use mathlib.Core.Path.{_≡_}
 use mathlib.Core.Bool.{Bool, true, false, cond, not, _||_}
 use mathlib.Core.List.{List, [], _∷_, _++_}
 use lib.Dec.{eqb, leb, ltb}
@@ -75,3 +76,8 @@ requestJudged k s =
     (cond (not (eqb (byteAt s 0) 1) || eqb (recordCount s) 0) (Refused Forbidden)
     (cond (not (eqb (length s) (2 + 3 * recordCount s))) (Refused Cut)
     (recordsJudged k s 0 (recordCount s))))
+
+-- what a good request is, as far as it is acted on
+pub record RequestGood (k : ℕ) (s : List ℕ) : Type 0 where
+  pub exact : length s ≡ 2 + 3 * recordCount s
+  pub contexts : (i : ℕ) → i < recordCount s → recordContext s i < k

@@ -16,14 +16,14 @@ use Rattle.codes.specs.Reading.{byteAt}
 use Rattle.codes.specs.RoundTrip.{left-first, left-byte, left-after}
 use Rattle.bytes.specs.declared.flags.Flags.{Flags}
 use Rattle.bytes.specs.Flags.{flagsOf}
-use Rattle.bytes.specs.FlagsLaws.{flagsOf-byteOf}
+use Rattle.bytes.specs.FlagsLaws.{byteOf-value, flagsOf-byteOf}
+use Rattle.links.specs.Cs.{State, recordFlags, recordBytes, recordsBytes, csBytes, recordCount, recordAt, recordContext, recordAsks}
+use Rattle.links.specs.Cs.{bitsForbidden, recordWith, recordJudged, recordsJudged, requestJudged, RequestGood}
 use Rattle.packet.specs.declared.refusal.Verdict.{Verdict}
 use Rattle.packet.specs.declared.refusal.Verdict.the-variants.{Accepted, Refused}
 use Rattle.packet.specs.declared.refusal.Refusal.the-variants.{Cut, Forbidden, NoSuchContext}
 use Rattle.packet.specs.Refusal.{firstRefusal}
 use Rattle.packet.specs.RefusalLaws.{firstRefusal-accepted}
-use Rattle.fields.specs.FlagsRange.{byteOf-value}
-use Rattle.links.specs.Cs.{State, recordFlags, recordBytes, recordsBytes, csBytes, recordCount, recordAt, recordContext, recordAsks, bitsForbidden, recordWith, recordJudged, recordsJudged, requestJudged}
 
 ---- recordWith: context number, then bits
 
@@ -56,10 +56,6 @@ module _ (k : ℕ) (s : List ℕ) where
   recordsJudged-none i n h = let e : n - i ≡ 0 = omega arith in rw e
 
 ---- what a good request is
-
-pub record RequestGood (k : ℕ) (s : List ℕ) : Type 0 where
-  pub exact : length s ≡ 2 + 3 * recordCount s
-  pub contexts : (i : ℕ) → i < recordCount s → recordContext s i < k
 
 module _ (k : ℕ) (s : List ℕ) where
   recordJudged-context : (i : ℕ) → recordJudged k s i ≡ Accepted → recordContext s i < k

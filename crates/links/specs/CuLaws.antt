@@ -8,20 +8,20 @@ use native.Mathlib.Omega.{arith}
 use lib.ListN.{length, take, drop, length-append}
 use Rattle.codes.specs.Bytes.{AllBytes, more, bigEndian}
 use Rattle.codes.specs.BytesLaws.{allBytes-append, allBytes-bigEndian}
+use Rattle.packet.specs.Ranges.{PartsFit}
 use Rattle.packet.specs.declared.parts.Parts.{Parts}
 use Rattle.bytes.specs.declared.flags.Flags.{Flags}
 use Rattle.bytes.specs.Flags.{byteOf}
-use Rattle.bytes.specs.FlagsLaws.{flagsOf-byteOf}
+use Rattle.bytes.specs.FlagsLaws.{byteOf-value, flagsOf-byteOf}
 use Rattle.bytes.specs.Put.{optional, listBytes, words}
 use Rattle.bytes.specs.PutLaws.{allBytes-optional, allBytes-words}
-use Rattle.fields.specs.FlagsRange.{byteOf-value}
 use Rattle.fields.specs.Place.{good}
 use Rattle.fields.specs.NextLaws.{left-past, nextByte-written, nextWord-written, nextLong-written, nextDelta16-written, nextDelta32-written, nextPayload-written, nextList-written}
 use Rattle.links.specs.declared.cu.Changes.{Changes}
 use Rattle.links.specs.declared.cu.Values.{Values}
 use Rattle.links.specs.Sent.{whole8, whole16, whole32, delta16, delta32, none16}
 use Rattle.links.specs.SentLaws.{length-four, append-four, unsent16, allBytes-whole8, allBytes-whole16, allBytes-whole32, allBytes-delta16, allBytes-delta32}
-use Rattle.links.specs.Fits.{PartsFit, CuFits}
+use Rattle.links.specs.FitsLaws.{CuFits}
 use Rattle.links.specs.Head.{contextOf, headOf}
 use Rattle.links.specs.HeadLaws.{headOf-written}
 use Rattle.links.specs.Cu.{cuFlags, cuSecond, changeBytes, valueBytes, cuBytes, changesOf, valuesOf, cuParts, cuRest, cuOf}

@@ -1,6 +1,6 @@
 -- Iarwennol. Laws of FULL_HEADER: what was encoded is judged good and read back, whatever comes after it. Assume nothing.
 -- Used by the theorem on lists of calls (crtp), by the decompressor and by refresh.
-use Prim.Native.Nat.{ℕ, _+_, _-_, _*_, _/_, _%_, _^_, _≤_, _<_}
+use Prim.Native.Nat.{ℕ, _+_, _-_, _*_, _/_, _%_, _≤_, _<_}
 use mathlib.Core.Path.{_≡_, refl, sym, _∙_}
 use mathlib.Core.Bool.{Bool, true, false, cond, not, _&&_}
 use mathlib.Core.List.{List, _++_}
@@ -10,13 +10,13 @@ use lib.Dec.{leb, ltb}
 use lib.ListN.{length, length-append}
 use Rattle.codes.specs.Bytes.{AllBytes}
 use Rattle.codes.specs.Reading.{byteAt, wordAt}
+use Rattle.packet.specs.Ranges.{HeaderInRange}
 use Rattle.packet.specs.declared.header.Header.{Header}
 use Rattle.headers.specs.Header.{countAt, rtpAt, headerOf, ipFront, ipBack, udpBytes, headerBytes, headerSize}
 use Rattle.headers.specs.Checksum.{ipChecksumOf, ipChecksum}
 use Rattle.headers.specs.Compressible.{fixedForm}
-use Rattle.headers.specs.Range.{HeaderInRange}
 use Rattle.headers.specs.HeaderLaws.{countAt-headerBytes, headerOf-headerBytes, headerOf-range, udpLength-headerBytes, ipChecksum-headerBytes, fixedForm-headerBytes, length-headerBytes, allBytes-headerBytes}
-use Rattle.headers.specs.ChecksumLaws.{ipChecksumOf-headerBytes}
+use Rattle.headers.specs.ChecksumLaws.{ipChecksum-lt, ipChecksumOf-headerBytes}
 use Rattle.packet.specs.declared.refusal.Verdict.the-variants.{Accepted, Refused}
 use Rattle.packet.specs.declared.refusal.Refusal.the-variants.{Cut, Forbidden, NoSuchContext}
 use Rattle.links.specs.Fh.{ipField, fhBytes, fieldsForm, checksumRight, fhJudged, fhOf}
@@ -86,10 +86,6 @@ pub record FhFits (k context generation link : ℕ) (h : Header) : Type 0 where
   pub young : generation < 64
   pub small : link < 16
   pub range : HeaderInRange h
-
-pub ipChecksum-lt : (h : Header) (total : ℕ) → ipChecksum h total < 2 ^ 16
-unfolding ipChecksum
-ipChecksum-lt h total = omega arith
 
 module _ (k context generation link total : ℕ) (h : Header) (fits : FhFits k context generation link h) where
   pub length-fhBytes : length (fhBytes context generation link total h) ≡ headerSize h

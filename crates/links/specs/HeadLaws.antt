@@ -11,7 +11,7 @@ use Rattle.bytes.specs.Flags.{byteOf}
 use Rattle.bytes.specs.FlagsLaws.{flagsOf-byteOf}
 use Rattle.fields.specs.Place.{good}
 use Rattle.fields.specs.NextLaws.{left-past, nextByte-written}
-use Rattle.fields.specs.NextRange.{nextByte-within}
+use Rattle.fields.proofs.NextRange.{nextByte-within}
 use Rattle.links.specs.Head.{headOf}
 
 pub headOf-written : (s : List ℕ) (context : ℕ) (f : Flags) (l : List ℕ) → f .low < 16 → s ≡ context ∷ byteOf f ∷ l

@@ -4,7 +4,7 @@ pub mod Cs
 pub mod CsLaws
 pub mod Sent
 pub mod SentLaws
-pub mod Fits
+pub mod FitsLaws
 pub mod Head
 pub mod HeadLaws
 pub mod Cu
@@ -13,5 +13,4 @@ pub mod Cr
 pub mod CrLaws
 pub mod Whole
 pub mod WholeLaws
-pub mod Range
 pub mod Cases

@@ -9,11 +9,11 @@ use lib.ListN.{length, length-append}
 use Rattle.codes.specs.Bytes.{AllBytes, none, more}
 use Rattle.codes.specs.BytesLaws.{allBytes-bigEndian}
 use Rattle.codes.specs.CodeLaws.{allBytes-codeOf}
+use Rattle.packet.specs.Ranges.{Sendable}
 use Rattle.packet.specs.declared.sent.Sent8.{Sent8}
 use Rattle.packet.specs.declared.sent.Sent16.{Sent16}
 use Rattle.packet.specs.declared.sent.Sent32.{Sent32}
 use Rattle.bytes.specs.PutLaws.{allBytes-optional}
-use Rattle.fields.specs.Fits.{Sendable}
 use Rattle.links.specs.Sent.{whole8, whole16, whole32, delta16, delta32, none8, none16, none32}
 
 ---- four runs, one after another

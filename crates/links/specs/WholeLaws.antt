@@ -8,6 +8,7 @@ use native.Mathlib.Omega.{arith}
 use lib.ListN.{length, drop, length-append}
 use Rattle.codes.specs.Bytes.{bigEndian}
 use Rattle.packet.specs.Csrc.{noList}
+use Rattle.packet.specs.Ranges.{HeaderFits}
 use Rattle.packet.specs.declared.header.RtpHeader.{RtpHeader}
 use Rattle.packet.specs.declared.parts.Parts.{Parts}
 use Rattle.bytes.specs.Flags.{byteOf, digit, bitAt}
@@ -18,7 +19,7 @@ use Rattle.fields.specs.NextLaws.{left-past, nextVersion-written, nextByte-writ
 use Rattle.links.specs.declared.whole.Fixed.{Fixed}
 use Rattle.links.specs.Sent.{none8, none16, none32}
 use Rattle.links.specs.SentLaws.{append-four, unsent8, unsent16, unsent32}
-use Rattle.links.specs.Fits.{HeaderFits, WholeFits}
+use Rattle.links.specs.FitsLaws.{WholeFits}
 use Rattle.links.specs.Head.{headOf}
 use Rattle.links.specs.HeadLaws.{headOf-written}
 use Rattle.links.specs.Cu.{changeBytes}

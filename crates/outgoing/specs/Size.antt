@@ -2,9 +2,9 @@
 -- Used by the send, which computes the exact length before it writes (rule 3.1, refusal 11).
 use Prim.Native.Nat.{ℕ, _≤_, _<_}
 use lib.ListN.{length}
+use Rattle.packet.specs.Ranges.{HeaderInRange}
 use Rattle.packet.specs.declared.header.Header.{Header}
 use Rattle.headers.specs.Header.{headerSize}
-use Rattle.headers.specs.Range.{HeaderInRange}
 use Rattle.links_write.specs.Size.{cuSize, crSize}
 use Rattle.context.specs.Compressor.{checksumSent}
 use Rattle.context.specs.declared.step.Kind.{Kind}

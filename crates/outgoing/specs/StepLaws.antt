@@ -1,19 +1,17 @@
 -- Iarwennol. Laws of a packet's step on a context, the first or a later one. Assume nothing.
 -- Used by the proofs and the laws of send.
-use Prim.Native.Nat.{ℕ, zero, suc, _-_, _%_, _≤_}
-use mathlib.Core.Path.{_≡_, refl, sym, ap, _∙_}
+use Prim.Native.Nat.{ℕ, _%_, _≤_}
+use mathlib.Core.Path.{_≡_, refl, ap}
 use mathlib.Core.Bool.{Bool, true, false}
 use native.Mathlib.Omega.{arith}
-use borrow.Author.Tests.{le-leb}
 use lib.Dec.{eqb}
-use lib.ListN.{length, replicate}
+use lib.ListN.{length}
 use Rattle.packet.specs.Csrc.{noList}
+use Rattle.packet.specs.Ranges.{HeaderInRange}
 use Rattle.packet.specs.declared.csrc.Csrc.{Csrc}
 use Rattle.packet.specs.declared.header.Header.{Header}
-use Rattle.headers.specs.Range.{HeaderInRange, ListInRange}
 use Rattle.context.specs.Compressor.{firstStep, stepOf, partsOf, listIf}
-use Rattle.context.specs.Range.{HeaderFits}
-use Rattle.context.specs.Sound.{zeros, soundList, soundLink, soundCompressor}
+use Rattle.context.specs.Sound.{soundLink, soundCompressor}
 use Rattle.context.specs.declared.compressor.Usage.{Usage}
 use Rattle.context.specs.declared.compressor.Usage.the-variants.{Empty, Live}
 use Rattle.context.specs.declared.compressor.CompressorContext.{CompressorContext}
@@ -80,28 +78,7 @@ module _ (n : ℕ) (h : Header) (r : HeaderInRange h) where
 
 ---- soundCompressor
 
-zeros-replicate : (n : ℕ) → zeros (replicate n 0) ≡ true
-zeros-replicate zero = refl
-zeros-replicate (suc n) = zeros-replicate n
-
-soundList-range : (l : Csrc) → ListInRange l → soundList l ≡ true
-unfolding soundList
-soundList-range l r = rw (le-leb (l .count) 15 (r .count), r .blank) (zeros-replicate (15 - l .count))
-
--- a header that was read from bytes is one that a context may keep
-pub fits-range : {h : Header} → HeaderInRange h → HeaderFits h
-fits-range {h} r = record {
-  flags = omega (arith, r .ip .flags);
-  id = r .ip .id;
-  payload = omega (arith, r .rtp .payload);
-  sequence = r .rtp .sequence;
-  timestamp = r .rtp .timestamp;
-  list = soundList-range (h .csrc) (r .csrc);
-  words = r .csrc .size;
-  checksum = r .checksum;
-}
-
-module _ (n : ℕ) (h : Header) (f : HeaderFits h) (even : eqb (h .flow .dport % 2) 0 ≡ true) where
+module _ (n : ℕ) (h : Header) (f : HeaderInRange h) (even : eqb (h .flow .dport % 2) 0 ≡ true) where
   sound-firstStep : soundCompressor n (firstStep n h firstLink .context) ≡ true
   unfolding firstStep soundLink
   sound-firstStep = sound-first n h firstLink f even refl

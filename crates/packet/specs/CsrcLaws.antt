@@ -2,7 +2,7 @@
 -- Used by the proof of same_words, and by the relation (context), where equal answers must mean equal lists.
 use Prim.Native.Nat.{ℕ, _+_, _<_, _≤_}
 use mathlib.Core.Path.{_≡_, refl, ap}
-use mathlib.Core.Bool.{Bool, true, false, _&&_, and-true, and-assoc}
+use mathlib.Core.Bool.{Bool, true, _&&_, and-true, and-assoc, and-eq-true-iff}
 use mathlib.Core.List.{List, [], _∷_}
 use native.Mathlib.Numerals.{add-one}
 use borrow.Author.Tests.{eqb-true}
@@ -12,22 +12,15 @@ use lib.Seq.{drop-cons}
 use Rattle.packet.specs.Csrc.{same, sameList}
 use Rattle.packet.specs.declared.csrc.Csrc.{Csrc}
 
-and-l : (a b : Bool) → (a && b) ≡ true → a ≡ true
-and-l true b e = refl
-and-l false b e = e
-
-and-r : (a b : Bool) → (a && b) ≡ true → b ≡ true
-and-r true b e = e
-and-r false true e = refl
-and-r false false e = e
-
 ---- same
 
 pub same-true : (a b : List ℕ) → same a b ≡ true → a ≡ b
 same-true [] [] e = refl
 same-true [] (y ∷ ys) e = cc
 same-true (x ∷ xs) [] e = cc
-same-true (x ∷ xs) (y ∷ ys) e = rw (eqb-true x y (and-l _ _ e), same-true xs ys (and-r (eqb x y) _ e))
+same-true (x ∷ xs) (y ∷ ys) e =
+    let t = and-eq-true-iff (eqb x y) (same xs ys) .0 e in
+    rw (eqb-true x y (t .0), same-true xs ys (t .1))
 
 -- one place further, and past the last, for the loop that compares
 module _ (a b : List ℕ) (i : ℕ) (ok : Bool) where
@@ -42,7 +35,6 @@ module _ (a b : List ℕ) (i : ℕ) (ok : Bool) where
 
 pub sameList-true : (a b : Csrc) → sameList a b ≡ true → a ≡ b
 unfolding sameList
-sameList-true a b e = λ i. record {
-  count = eqb-true (a .count) (b .count) (and-l _ _ e) i;
-  words = same-true (a .words) (b .words) (and-r (eqb (a .count) (b .count)) _ e) i;
-}
+sameList-true a b e =
+    let t = and-eq-true-iff (eqb (a .count) (b .count)) (same (a .words) (b .words)) .0 e in
+    λ i. record { count = eqb-true (a .count) (b .count) (t .0) i; words = same-true (a .words) (b .words) (t .1) i }

@@ -1,3 +1,2 @@
-pub mod NarrowLaws
 pub mod Taken
 pub mod TakenLaws

@@ -29,11 +29,11 @@ use Rattle.decompressor.specs.declared.answer.Outcome.the-variants.{Accepted, R
 use Rattle.decompressor.specs.declared.table.Table.{Table}
 use Rattle.receive.specs.declared.settle.Taken.{Taken}
 use Rattle.decompressor.specs.Answer.{Result, accepted, refused, delivered}
-use Rattle.decompressor.specs.Table.{noContext, contextAt, withContext}
+use Rattle.decompressor.specs.Table.{noContext, contextAt, withContext, Sound}
+use Rattle.decompressor.specs.TableLaws.{sound-repeats, sound-contextAt}
 use Rattle.decompressor.specs.Receive.{packetOf, rebuildTo, settleRead, receiveParts, receiveWhole, receiveOld, receiveUdp, receiveRtp, receiveOn}
 use Rattle.decompressor.specs.declared.old.OldForm.{OldForm}
 use Rattle.decompressor.specs.declared.old.OldForm.the-variants as old
-use Rattle.decompressor.specs.TableLaws.{Sound, sound-repeats, sound-contextAt}
 use Rattle.receive.specs.Taken.{placed, Takes, HeadRead}
 
 ---- withContext

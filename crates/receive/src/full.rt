@@ -4,7 +4,7 @@ ghost use lib.ListN.{length, drop};
 ghost use Rattle.links.specs.Fh.{fhJudged, fhOf};
 ghost use Rattle.packet.specs.declared.refusal.Verdict.the-variants.{Accepted};
 ghost use Rattle.decompressor.specs.Answer.{said, delivered};
-ghost use Rattle.decompressor.specs.TableLaws.{Sound};
+ghost use Rattle.decompressor.specs.Table.{Sound};
 ghost use Rattle.decompressor.specs.Receive.{packetOf, fullTable, receiveFull};
 use crate::output::put_packet;
 use context::kept::Link;

@@ -13,7 +13,7 @@ ghost use mathlib.Core.Path.{_≡_};
 ghost use Prim.Native.Nat.{_≤_};
 ghost use lib.ListN.{length};
 ghost use Rattle.decompressor.specs.Answer.{said};
-ghost use Rattle.decompressor.specs.TableLaws.{Sound};
+ghost use Rattle.decompressor.specs.Table.{Sound};
 ghost use Rattle.decompressor.specs.Receive.{receivePlain, receiveKind, receiveOf};
 use crate::compressed::receive_compressed;
 use crate::full::receive_full;

@@ -3,7 +3,7 @@ ghost use Prim.Native.Nat.{_≤_, _+_};
 ghost use lib.ListN.{length};
 ghost use Rattle.bytes.specs.Put.{Wrote};
 ghost use Rattle.headers.specs.Header.{headerSize};
-ghost use Rattle.headers.specs.Range.{Narrow};
+ghost use Rattle.packet.specs.Ranges.{Narrow};
 ghost use Rattle.decompressor.specs.Receive.{packetOf};
 use bytes::put::put_all;
 use headers_write::write::put_printed;

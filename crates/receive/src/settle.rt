@@ -1,7 +1,7 @@
 ghost use mathlib.Core.Path.{_≡_};
 ghost use Prim.Native.Nat.{ℕ, _≤_};
 ghost use lib.ListN.{length};
-ghost use Rattle.headers.specs.Range.{Narrow};
+ghost use Rattle.packet.specs.Ranges.{Narrow};
 ghost use Rattle.context.specs.Decompressor.{rebuilt};
 ghost use Rattle.packet.specs.declared.refusal.Verdict.the-variants.{Accepted};
 ghost use Rattle.decompressor.specs.Receive.{rebuildTo, settle, settleRead};

@@ -3,7 +3,7 @@ ghost use Prim.Native.Nat.{_≤_, _<_, _+_, _*_, _%_};
 ghost use lib.ListN.{length};
 ghost use Rattle.headers.specs.Header.{countAt, headerSize};
 ghost use Rattle.bytes.specs.Put.{Wrote};
-ghost use Rattle.headers.specs.Range.{Narrow};
+ghost use Rattle.packet.specs.Ranges.{Narrow};
 ghost use Rattle.links.specs.Fh.{fieldsForm, fhJudged, fhOf, ipField, fhBytes};
 use bytes::flags::split;
 use headers_read::form::fixed_form;

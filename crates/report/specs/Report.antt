@@ -23,6 +23,10 @@ isBroken c = brokenBy (c .status)
 abbrev pub stateOf : ℕ → DecompressorContext → State
 stateOf i c = record { context = i; link = c .link .sequence; generation = c .link .generation }
 
+-- what is said of one context: nothing, where it is not broken
+abbrev pub statesOf : ℕ → DecompressorContext → List State
+statesOf i c = cond (isBroken c) (stateOf i c ∷ []) []
+
 -- of every broken one, the lowest first; i: the first one's number
 abbrev pub statesFrom : ℕ → List DecompressorContext → List State
 statesFrom i [] = []

@@ -26,16 +26,11 @@ use Rattle.packet.specs.declared.refusal.Refusal.the-variants.{NoRoom}
 use Rattle.decompressor.specs.declared.answer.Outcome.the-variants.{Accepted, Refused}
 use Rattle.decompressor.specs.declared.table.Table.{Table}
 use Rattle.decompressor.specs.Answer.{said, accepted, refused, delivered}
-use Rattle.decompressor.specs.Table.{emptyBy, isEmpty, soundOf}
-use Rattle.decompressor.specs.TableLaws.{Sound}
+use Rattle.decompressor.specs.Table.{emptyBy, isEmpty, soundOf, Sound}
 use Rattle.decompressor.specs.PacketLaws.{said-noRoom, said-accepted}
-use Rattle.report.specs.Report.{brokenBy, isBroken, stateOf, statesFrom, reportOn, reportBytes, reportOf}
+use Rattle.report.specs.Report.{brokenBy, isBroken, stateOf, statesOf, statesFrom, reportOn, reportBytes, reportOf}
 
 ---- statesFrom
-
--- what is said of one context: nothing, where it is not broken
-abbrev pub statesOf : ℕ → DecompressorContext → List State
-statesOf i c = cond (isBroken c) (stateOf i c ∷ []) []
 
 by-broken : (z : Bool) (r : State) (xs ys zs : List State) → xs ≡ ys ++ zs → cond z (r ∷ xs) xs ≡ cond z (r ∷ ys) ys ++ zs
 by-broken true r xs ys zs e = ap {B = List State} (λ l. r ∷ l) e

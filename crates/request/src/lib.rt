@@ -7,7 +7,7 @@ ghost use mathlib.Core.Path.{_≡_};
 ghost use mathlib.Core.Bool.{cond};
 ghost use mathlib.Core.List.{[]};
 ghost use Prim.Native.Nat.{_≤_};
-ghost use Rattle.links.specs.CsLaws.{RequestGood};
+ghost use Rattle.links.specs.Cs.{RequestGood};
 ghost use Rattle.context.specs.Compressor.{requested};
 ghost use Rattle.compressor.specs.Answer.{said};
 ghost use Rattle.compressor.specs.Request.{requestTable, requestOf};

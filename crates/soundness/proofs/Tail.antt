@@ -9,7 +9,7 @@ use borrow.Author.Tests.{ltb-true, ltb-false, le-ltb}
 use lib.Dec.{ltb}
 use lib.ListN.{length, getD, drop}
 use Rattle.context.specs.All.{all}
-use Rattle.context.specs.AllLaws.{all-drop, all-end}
+use Rattle.context.proofs.AllLaws.{all-drop, all-end}
 
 -- where the elements begin that are still to be looked at: past the first i, and in the tail
 abbrev pub from : (count i : ℕ) → ℕ

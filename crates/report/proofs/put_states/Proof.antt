@@ -1,7 +1,7 @@
 use Rattle.report.specs.ReportLaws.{statesBefore, states-all, records-more, records-room}
 use Rattle.report.specs.Report.{statesFrom}
 use Rattle.links.specs.Cs.{recordsBytes}
-use Rattle.context.specs.AllLaws.{all-getD}
+use Rattle.context.proofs.AllLaws.{all-getD}
 use Rattle.decompressor.specs.TableLaws.{sound-noContext}
 use Rattle.decompressor.specs.Table.{noContext}
 use Rattle.context.proofs.Arrays.{length-mapped}

@@ -1,5 +1,5 @@
 use Rattle.receive.specs.TakenLaws.{takes-parts}
-use Rattle.receive.specs.NarrowLaws.{applied-narrow}
+use Rattle.receive.proofs.NarrowLaws.{applied-narrow}
 use borrow.Author.Needs.{needs}
 use Rattle.receive.proofs.compressed.receive_parts.Statement.{statement}
 use Rattle.receive.proofs.compressed.receive_parts.Tie as tie

@@ -1,5 +1,5 @@
 use Rattle.receive.specs.TakenLaws.{takes-rtp}
-use Rattle.links.specs.Range.{crOf-within, crOf-sound}
+use Rattle.links.proofs.Range.{crOf-within, crOf-sound}
 use Rattle.context.specs.Decompressor.{checksumRead}
 use borrow.Author.Needs.{needs}
 use Rattle.receive.proofs.compressed.receive_rtp.Statement.{statement}

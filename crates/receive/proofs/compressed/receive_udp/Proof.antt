@@ -1,5 +1,5 @@
 use Rattle.receive.specs.TakenLaws.{takes-udp, takes-old}
-use Rattle.links.specs.Range.{cuOf-within, cuOf-sound}
+use Rattle.links.proofs.Range.{cuOf-within, cuOf-sound}
 use Rattle.context.specs.Decompressor.{checksumRead}
 use borrow.Author.Needs.{needs}
 use Rattle.receive.proofs.compressed.receive_udp.Statement.{statement}

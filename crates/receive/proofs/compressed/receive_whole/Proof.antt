@@ -1,6 +1,6 @@
 use Rattle.receive.specs.TakenLaws.{takes-whole}
-use Rattle.receive.specs.NarrowLaws.{whole-narrow}
-use Rattle.links.specs.Range.{wholeOf-within, wholeOf-sound, wholeOf-header}
+use Rattle.receive.proofs.NarrowLaws.{whole-narrow}
+use Rattle.links.proofs.Range.{wholeOf-within, wholeOf-sound, wholeOf-header}
 use Rattle.links.specs.Whole.{wholeOf}
 use Rattle.context.specs.Decompressor.{checksumRead}
 use borrow.Author.Needs.{needs}

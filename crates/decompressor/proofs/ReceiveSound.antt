@@ -14,6 +14,7 @@ use Rattle.codes.specs.Bytes.{AllBytes}
 use Rattle.codes.specs.Reading.{byteAt}
 use Rattle.packet.specs.declared.parts.Parts.{Parts}
 use Rattle.fields.specs.declared.place.Place.{Place}
+use Rattle.packet.specs.Ranges.{HeaderSound, PartsSound}
 use Rattle.fields.specs.Place.{stopped}
 use Rattle.headers.specs.Header.{headerSize}
 use Rattle.links.specs.declared.head.Head.{Head}
@@ -26,11 +27,12 @@ use Rattle.links.specs.Cr.{crOf}
 use Rattle.links.specs.Whole.{wholeOf}
 use Rattle.links.specs.Fh.{fhJudged, fhOf}
 use Rattle.links.specs.FhLaws.{fhOf-context, fhOf-generation, fhOf-link, fhOf-range}
-use Rattle.links.specs.Range as links
+use Rattle.links.proofs.Range as links
+use Rattle.context.specs.Sound.{soundDecompressor}
+use Rattle.context.proofs.SoundFacts.{bounds-soundLink}
 use Rattle.packet.specs.Refusal.{numberOf, isAccepted}
 use Rattle.packet.specs.RefusalLaws.{numberOf-least}
 use Rattle.settings.specs.Settings.{lengthAllowed}
-use Rattle.context.specs.Sound.{soundDecompressor}
 use Rattle.context.specs.Decompressor.{filled, broke, applied, appliedWhole, checksumRead, rebuilt}
 use Rattle.context.proofs.DecompressorSound.{sound-filled, sound-broke, sound-applied, sound-appliedWhole}
 use Rattle.context.specs.declared.decompressor.Status.{Status}
@@ -43,9 +45,8 @@ use Rattle.decompressor.specs.declared.old.OldForm.{OldForm}
 use Rattle.decompressor.specs.declared.old.OldForm.the-variants.{Taken}
 use Rattle.decompressor.specs.declared.table.Table.{Table}
 use Rattle.decompressor.specs.Answer.{Result, accepted, refused, delivered}
-use Rattle.decompressor.specs.Table.{noContext, soundOf, contextAt, withContext}
-use Rattle.decompressor.specs.TableLaws.{Sound, soundOf-true, sound-contextAt, sound-withContext}
-use Rattle.decompressor.specs.RangeLaws.{header-fits, parts-sound, whole-sound, link-sound}
+use Rattle.decompressor.specs.Table.{noContext, soundOf, contextAt, withContext, Sound}
+use Rattle.decompressor.specs.TableLaws.{soundOf-true, sound-contextAt, sound-withContext}
 use Rattle.decompressor.specs.Receive.{packetOf, receivePlain, fullTable, receiveFullBy, receiveFull, rebuildTo, settleBy, settle, settleRead}
 use Rattle.decompressor.specs.Receive.{receiveParts, receiveWhole, receiveOld, receiveUdp, receiveRtp, receiveOn, receiveCompressed, receiveKind}
 use Rattle.decompressor.specs.Receive.{receiveBy, receiveOf}
@@ -127,8 +128,8 @@ module _ (t : Table) (s : List ℕ) (a : AllBytes s) where
       one (filled (fhOf s .header) (record { sequence = fhOf s .link; generation = fhOf s .generation }))
       (fhOf-context s (t .settings .contexts) e)
       (sound-filled (fhOf s .header) (record { sequence = fhOf s .link; generation = fhOf s .generation })
-      (header-fits (fhOf s .header) (fhOf-range s a))
-      (link-sound (fhOf s .link) (fhOf s .generation) (fhOf-link s) (fhOf-generation s)))
+      (fhOf-range s a)
+      (bounds-soundLink _ (record { sequence = omega (arith, fhOf-link s); generation = omega (arith, fhOf-generation s) })))
 
   full-way : (v : Verdict) → fhJudged (t .settings .contexts) s ≡ v → Way t (fhOf s .context) (λ output. receiveFullBy v t (fhOf s) s output)
   full-way Accepted e = gives (fullTable t (fhOf s)) (packetOf (fhOf s .header) (drop (fhOf s .start) s)) (full-leaves e) (λ output. refl)
@@ -162,18 +163,18 @@ module _ (t : Table) (i : ℕ) (sound : Sound t) (among : i < t .settings .conte
 
   -- on a live context
   module _ (live : contextAt t i .status ≡ Live) where
-    receiveParts-way : (r : ReadParts) (q : ℕ) (s : List ℕ) → q < 16 → links.PartsSound (r .parts) → Way t i (λ output. receiveParts r t i q s output)
+    receiveParts-way : (r : ReadParts) (q : ℕ) (s : List ℕ) → q < 16 → PartsSound (r .parts) → Way t i (λ output. receiveParts r t i q s output)
     receiveParts-way r q s small p =
         settleRead-way (r .place .verdict) (r .place .cursor .at) (applied (t .settings .repeats) q (contextAt t i) (r .parts)) (r .parts .checksum) s
-        (sound-applied (t .settings .repeats) q (contextAt t i) (r .parts) (omega arith) (parts-sound (r .parts) p) live (sound-contextAt t i sound))
+        (sound-applied (t .settings .repeats) q (contextAt t i) (r .parts) (omega arith) p live (sound-contextAt t i sound))
 
-    receiveWhole-way : (r : ReadWhole) (q : ℕ) (s : List ℕ) → q < 16 → links.PartsSound (r .parts) → links.HeaderSound (r .header)
+    receiveWhole-way : (r : ReadWhole) (q : ℕ) (s : List ℕ) → q < 16 → PartsSound (r .parts) → HeaderSound (r .header)
         → Way t i (λ output. receiveWhole r t i q s output)
     receiveWhole-way r q s small p w =
         settleRead-way (r .place .verdict) (r .place .cursor .at)
         (appliedWhole (t .settings .repeats) q (contextAt t i) (r .parts) (r .header)) (r .parts .checksum) s
-        (sound-appliedWhole (t .settings .repeats) q (contextAt t i) (r .parts) (omega arith) (parts-sound (r .parts) p) live
-        (sound-contextAt t i sound) (r .header) (whole-sound (r .header) w))
+        (sound-appliedWhole (t .settings .repeats) q (contextAt t i) (r .parts) (omega arith) p live
+        (sound-contextAt t i sound) (r .header) w)
 
     receiveOld-way : (old : OldForm) (h : Head) (s : List ℕ) → h .flags .low < 16 → Way t i (λ output. receiveOld old t i h s output)
     unfolding receiveOld

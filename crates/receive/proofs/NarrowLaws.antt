@@ -4,10 +4,9 @@ use Prim.Native.Nat.{ℕ, _≤_, _<_}
 use mathlib.Core.Path.{_≡_, refl}
 use mathlib.Core.Bool.{true}
 use native.Mathlib.Omega.{arith}
+use Rattle.packet.specs.Ranges.{Narrow, HeaderSound, PartsSound}
 use Rattle.packet.specs.declared.header.RtpHeader.{RtpHeader}
 use Rattle.packet.specs.declared.parts.Parts.{Parts}
-use Rattle.headers.specs.Range.{Narrow}
-use Rattle.links.specs.Range as links
 use Rattle.context.specs.Sound.{soundDecompressor}
 use Rattle.context.specs.Decompressor.{gapVerdict, gapOf, advanced, advancedWhole, settled, applied, appliedWhole, rebuilt}
 use Rattle.packet.specs.RefusalLaws.{refused-accepted}
@@ -17,7 +16,6 @@ use Rattle.context.specs.declared.decompressor.Status.the-variants.{Live}
 use Rattle.context.specs.declared.decompressor.DecompressorContext.{DecompressorContext}
 use Rattle.packet.specs.declared.refusal.Verdict.{Verdict}
 use Rattle.packet.specs.declared.refusal.Verdict.the-variants.{Accepted, Refused}
-use Rattle.decompressor.specs.RangeLaws.{parts-sound, whole-sound}
 
 ---- rebuilt
 
@@ -44,12 +42,12 @@ module _ (n q : ℕ) (c : DecompressorContext) (p : Parts) (live : c .status ≡
   unfolding appliedWhole advancedWhole
   whole-live w e = settled-live (gapVerdict n (gapOf q c)) (gapOf q c) c (advancedWhole (gapOf q c) q c p w) live e
 
-  module _ (sent : ℕ) (small : q < 16) (s : soundDecompressor c ≡ true) (parts : links.PartsSound p) where
+  module _ (sent : ℕ) (small : q < 16) (s : soundDecompressor c ≡ true) (parts : PartsSound p) where
     pub applied-narrow : applied n q c p .verdict ≡ Accepted → Narrow (rebuilt (applied n q c p .context) sent)
-    applied-narrow e = rebuilt-narrow (applied n q c p .context) sent (applied-live e) (sound-applied n q c p (omega arith) (parts-sound p parts) live s)
+    applied-narrow e = rebuilt-narrow (applied n q c p .context) sent (applied-live e) (sound-applied n q c p (omega arith) parts live s)
 
-    pub whole-narrow : (w : RtpHeader) → links.HeaderSound w → appliedWhole n q c p w .verdict ≡ Accepted
+    pub whole-narrow : (w : RtpHeader) → HeaderSound w → appliedWhole n q c p w .verdict ≡ Accepted
         → Narrow (rebuilt (appliedWhole n q c p w .context) sent)
     whole-narrow w h e =
         rebuilt-narrow (appliedWhole n q c p w .context) sent (whole-live w e)
-        (sound-appliedWhole n q c p (omega arith) (parts-sound p parts) live s w (whole-sound w h))
+        (sound-appliedWhole n q c p (omega arith) parts live s w h)

@@ -15,10 +15,10 @@ use Rattle.codes.specs.Code.{Row, rows, among}
 use Rattle.codes.specs.Difference.{hasCode}
 use Rattle.codes.specs.Reading.{Reading, accepted, refused, has, byteAt, wordAt, longAt, tripleAt, fieldAt, readByte, readWord, readLong, readDelta, readBy, valueIn, codeAt}
 use Rattle.codes.specs.RoundTrip.{left-after}
-use Rattle.headers.specs.BytesLaws.{allBytes-byteAt}
-use Rattle.headers.specs.Range.{ListInRange}
+use Rattle.codes.proofs.BytesRead.{allBytes-byteAt}
+use Rattle.packet.specs.Ranges.{ListSound, ListInRange}
+use Rattle.packet.specs.RangesLaws.{zero-words}
 use Rattle.fields.specs.declared.place.Place.{Place}
-use Rattle.fields.specs.Fits.{ListSound}
 use Rattle.packet.specs.Refusal.{isAccepted}
 use Rattle.fields.specs.Place.{passed}
 use Rattle.fields.specs.Next.{next, taken, formed, readPayload, readVersion, nextByte, nextWord, nextLong, nextDelta16, nextDelta32, nextPayload, nextVersion, nextList}
@@ -296,11 +296,6 @@ module _ (s : List ℕ) (p : Place) where
     size = list-size n;
     blank = rw (nextList-count n) (list-blank n h);
   }
-
-pub zero-words : (n i : ℕ) → getD (replicate n 0) i 0 < 2 ^ 32
-zero-words zero i = omega arith
-zero-words (suc n) zero = omega arith
-zero-words (suc n) (suc i) = zero-words n i
 
 -- every word of a list stays within its bound when one is set
 set-within : (ws : List ℕ) (n x m : ℕ) → x < m → ((i : ℕ) → getD ws i 0 < m) → (i : ℕ) → getD (set ws n x) i 0 < m

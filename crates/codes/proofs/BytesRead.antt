@@ -1,13 +1,13 @@
 -- Iarwennol. Laws of the bytes of a packet and of the numbers that stand in them. Assume nothing.
--- Used by the laws of the header, both ways.
+-- Used by the laws of the header, both ways, and of what is read from a link packet (fields).
 use Prim.Native.Nat.{ℕ, zero, suc, _+_, _*_, _/_, _%_, _^_, _≤_, _<_}
 use mathlib.Core.Path.{_≡_, refl, ap}
 use mathlib.Core.List.{List, [], _∷_, _++_}
 use native.Mathlib.Nat.{not-suc-le-zero, le-of-suc-le-suc}
 use native.Mathlib.Omega.{arith}
 use lib.ListN.{length, drop}
 use Rattle.codes.specs.Bytes.{AllBytes, none, more, bigEndian}
 use Rattle.codes.specs.Reading.{byteAt, wordAt, longAt}
 
 ---- AllBytes
 

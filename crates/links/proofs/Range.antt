@@ -7,29 +7,18 @@ use mathlib.Core.List.{List}
 use native.Mathlib.Omega.{arith}
 use lib.ListN.{length}
 use Rattle.codes.specs.Difference.{hasCode}
-use Rattle.packet.specs.declared.header.RtpHeader.{RtpHeader}
-use Rattle.packet.specs.declared.parts.Parts.{Parts}
+use Rattle.packet.specs.Ranges.{ListSound, HeaderSound, PartsSound}
 use Rattle.bytes.specs.declared.flags.Flags.{Flags}
 use Rattle.bytes.specs.Flags.{flagsOf}
 use Rattle.fields.specs.declared.place.Place.{Place}
-use Rattle.fields.specs.Fits.{ListSound}
 use Rattle.fields.specs.Next.{nextByte, nextWord, nextLong, nextDelta16, nextVersion}
-use Rattle.fields.specs.NextRange.{nextByte-within, nextWord-within, nextLong-within, nextDelta16-within, nextDelta32-within, nextPayload-within, nextVersion-within, nextList-within, nextDelta32-coded, nextPayload-value, nextList-sound}
+use Rattle.fields.proofs.NextRange.{nextByte-within, nextWord-within, nextLong-within, nextDelta16-within, nextDelta32-within}
+use Rattle.fields.proofs.NextRange.{nextPayload-within, nextVersion-within, nextList-within, nextDelta32-coded, nextPayload-value, nextList-sound}
 use Rattle.links.specs.declared.cr.Second.{Second}
 use Rattle.links.specs.declared.whole.Fixed.{Fixed}
 use Rattle.links.specs.Cu.{changesOf, valuesOf, cuRest, cuOf}
 use Rattle.links.specs.Cr.{allFour, secondWith, secondOf, deltasOf, crRest, crOf}
 use Rattle.links.specs.Whole.{fixedOf, rtpRest, rtpOf, wholeOf}
-
--- parts, and an RTP header, that leave a sound context sound (rule 2.3)
-pub record PartsSound (h : Parts) : Type 0 where
-  pub payload : h .payload .value < 128
-  pub coded : hasCode 32 (h .dts .value) ≡ true
-  pub list : ListSound (h .csrc)
-
-pub record HeaderSound (w : RtpHeader) : Type 0 where
-  pub payload : w .rtp .payload < 128
-  pub list : ListSound (w .csrc)
 
 module _ (s : List ℕ) where
   ---- CU with F
