@@ -16,8 +16,8 @@ use Rattle.packet.specs.declared.parts.Parts.{Parts}
 use Rattle.context.specs.Field.{nextSequence, offPattern, isDue, movedOn}
 use Rattle.context.specs.Compressor.{resetDeltas, sameConstants, begun, reset, judged, adoptsId, adoptsTimestamp, dueNow, anyDue, kindOf, listIf, partsOf, deltasAfter, moved, sentWith, sentFrom, stepOf}
 use Rattle.context.specs.Decompressor.{filled, ipAfter, rtpAfter, deltasHeld, advanced, applied, rebuilt}
-use Rattle.context.specs.Range.{Held}
-use Rattle.context.specs.Relation.{Constants, Running, Close, Related, Arrives, received, isFull, idTrack, idSeen, sequenceTrack, sequenceSeen, timestampTrack, timestampSeen}
+use Rattle.context.proofs.Relation.{Held}
+use Rattle.context.proofs.Relation.{Constants, Running, Close, Related, Arrives, received, isFull, idTrack, idSeen, sequenceTrack, sequenceSeen, timestampTrack, timestampSeen}
 use Rattle.context.specs.declared.kept.Deltas.{Deltas}
 use Rattle.context.specs.declared.kept.Link.{Link}
 use Rattle.context.specs.declared.compressor.Usage.the-variants as usage
@@ -90,10 +90,9 @@ close-now n g f h c d flow small e run =
     let v = standing (c .link .sequence) g f h d in
     let s = moved n h c (judged h c) in
     record {
-      status = refl;
+      listening = record { status = refl; bound = small };
       constants = record { flow = flow; tos = refl; ttl = refl; flags = refl; padding = refl; extension = refl; carried = refl };
       sequence = omega arith;
-      bound = small;
       running = λ k. run (rw (moved-full n h c) at k);
       id = near-now 16 n (idSeen v) (idTrack s) refl (ap (λ (x : Deltas). x .id) e);
       number = near-now 16 n (sequenceSeen v) (sequenceTrack s) refl refl;
@@ -179,7 +178,7 @@ module _ (n j : ℕ) (v : DecompressorContext) (h : Header) (c : CompressorConte
       let dt = delta-arrives 32 n j (timestampSeen v) (timestampTrack c) (h .rtp .timestamp) (held .timestamp) (fits .rtp .timestamp) (adoptsTimestamp h c) (m .timestamp) few in
       let hl = list-arrives (anyDue (dueNow (c .due) (judged h c))) (h .csrc) (v .csrc) list-due in
       λ i. record {
-        status = m .status i;
+        status = m .listening .status i;
         filled = v .filled;
         flow = (k .flow ∙ sym flow) i;
         ip = record { tos = (k .tos ∙ sym (g .tos)) i; ttl = (k .ttl ∙ sym (g .ttl)) i; flags = (k .flags ∙ sym (g .flags)) i; id = hi i };
@@ -209,9 +208,9 @@ module _ (n j : ℕ) (v : DecompressorContext) (h : Header) (c : CompressorConte
             ap (λ (k : Kind). received k n h (c .link) (sentFrom n h c .parts) v) (kind-part z any)
             ∙ received-part any n h (c .link) (sentFrom n h c .parts) v
             ∙ applied-in-step n j (c .link .sequence) v _ (sentFrom n h c .parts)
-            (gap-lost (v .link .sequence) (c .link .sequence) j (omega arith) (m .bound) (m .sequence)) few arrived;
+            (gap-lost (v .link .sequence) (c .link .sequence) j (omega arith) (m .listening .bound) (m .sequence)) few arrived;
         exact = standing-exact (c .link .sequence) (v .link .generation) (v .filled) h (deltasAfter (c .deltas) (judged h c));
-        live = λ e. m .status;
+        live = λ e. m .listening .status;
         carries = λ e. m .constants .carried ∙ ap not (sym (g .blank));
         keeps = record { few = omega arith; held = moved-held n h c fits held; close = λ u k. close-part z };
       }

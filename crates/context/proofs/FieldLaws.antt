@@ -13,7 +13,7 @@ use borrow.Author.Tests.{eqb-true, not-false}
 use Rattle.codes.specs.Difference.{difference, sum}
 use Rattle.codes.specs.DifferenceLaws.{sum-difference}
 use Rattle.context.specs.Field.{offPattern, counted, isDue, steps, movedOn}
-use Rattle.context.specs.Relation.{Track, Seen, Near}
+use Rattle.context.proofs.Relation.{Track, Seen, Near}
 use Rattle.context.proofs.Tests.{isDue-false}
 
 ---- difference

@@ -1,5 +1,6 @@
 pub mod AllLaws
 pub mod Arrays
+pub mod Relation
 pub mod Tests
 pub mod FieldLaws
 pub mod Gap

@@ -11,8 +11,8 @@ use Rattle.packet.specs.Ranges.{HeaderInRange}
 use Rattle.packet.specs.declared.header.Header.{Header}
 use Rattle.context.specs.Field.{counted, nextSequence, offPattern}
 use Rattle.context.specs.Compressor.{sameConstants, started, begun, reset, judged, adoptsId, adoptsTimestamp, dueAfter, deltasAfter, moved, sentWith, stepOf}
-use Rattle.context.specs.Range.{Held}
-use Rattle.context.specs.Relation.{Near, Constants, Running, Close, Related, idTrack, idSeen, sequenceTrack, sequenceSeen, timestampTrack, timestampSeen}
+use Rattle.context.proofs.Relation.{Held}
+use Rattle.context.proofs.Relation.{Near, Constants, Running, Close, Related, idTrack, idSeen, sequenceTrack, sequenceSeen, timestampTrack, timestampSeen}
 use Rattle.context.specs.declared.compressor.Usage.the-variants.{Live}
 use Rattle.context.specs.declared.compressor.CompressorContext.{CompressorContext}
 use Rattle.context.specs.declared.decompressor.DecompressorContext.{DecompressorContext}
@@ -66,7 +66,7 @@ module _ (n j : ℕ) (v : DecompressorContext) (h : Header) (c : CompressorConte
   moved-lost g m =
       let k : Constants v c = m .constants in
       record {
-        status = m .status;
+        listening = m .listening;
         constants = record {
           flow = k .flow;
           tos = k .tos ∙ sym (g .tos);
@@ -77,7 +77,6 @@ module _ (n j : ℕ) (v : DecompressorContext) (h : Header) (c : CompressorConte
           carried = k .carried ∙ ap not (sym (g .blank));
         };
         sequence = omega (arith, m .sequence);
-        bound = m .bound;
         running = λ f. let e : 1 ≤ c .due .full - 1 = rw (moved-full n h c) at f in moved-running n h c (omega arith) (m .running (omega arith));
         id = near-lost 16 n j (idSeen v) (idTrack c) (h .ip .id) (held .id) (fits .ip .id)
             _ (adoptsId h c) (m .id) few refl (adoptsId-off h c);

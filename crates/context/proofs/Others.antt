@@ -10,9 +10,9 @@ use Rattle.packet.specs.declared.header.Header.{Header}
 use Rattle.context.specs.Field.{nextSequence}
 use Rattle.context.specs.Compressor.{started, skips, startedUnlessDue, requested, requestedBy, first, firstStep, partsOf}
 use Rattle.context.specs.Decompressor.{filled}
-use Rattle.context.specs.Range.{Held}
+use Rattle.context.proofs.Relation.{Held}
 use Rattle.context.specs.Sound.{emptyCompressor}
-use Rattle.context.specs.Relation.{Close, Related, Arrives, idTrack, idSeen, sequenceTrack, sequenceSeen, timestampTrack, timestampSeen}
+use Rattle.context.proofs.Relation.{Close, Related, Arrives, idTrack, idSeen, sequenceTrack, sequenceSeen, timestampTrack, timestampSeen}
 use Rattle.context.specs.declared.kept.Link.{Link}
 use Rattle.context.specs.declared.compressor.Usage.{Usage}
 use Rattle.context.specs.declared.compressor.Usage.the-variants.{Empty, Live}
@@ -49,10 +49,9 @@ related-first-lost n j v h l f few = record { few = few; held = first-held n h l
 first-close : (n : ℕ) (h : Header) (l : Link) → l .sequence < 16 → Close n 0 (filled h l) (first n h l)
 unfolding first filled nextSequence
 first-close n h l small = record {
-  status = refl;
+  listening = record { status = refl; bound = small };
   constants = record { flow = refl; tos = refl; ttl = refl; flags = refl; padding = refl; extension = refl; carried = refl };
   sequence = omega arith;
-  bound = small;
   running = λ k. record { id = refl; timestamp = refl; did = refl; dts = refl };
   id = near-now 16 n (idSeen (filled h l)) (idTrack (first n h l)) refl refl;
   number = near-now 16 n (sequenceSeen (filled h l)) (sequenceTrack (first n h l)) refl refl;

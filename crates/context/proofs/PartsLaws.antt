@@ -14,7 +14,7 @@ use Rattle.packet.specs.declared.csrc.Csrc.{Csrc}
 use Rattle.packet.specs.declared.header.Header.{Header}
 use Rattle.packet.specs.declared.parts.Parts.{Parts}
 use Rattle.context.specs.Compressor.{begun, reset, adoptsTimestamp, judged, dueNow, anyDue, kindOf, listIf, partsOf, deltasAfter, moved, sentWith, sentFrom, stepOf}
-use Rattle.context.specs.Range.{Held}
+use Rattle.context.proofs.Relation.{Held}
 use Rattle.context.specs.Sound.{soundLink, soundCompressor}
 use Rattle.context.specs.declared.compressor.Usage.the-variants.{Live}
 use Rattle.context.specs.declared.compressor.CompressorContext.{CompressorContext}

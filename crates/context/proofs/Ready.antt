@@ -9,8 +9,8 @@ use lib.Dec.{eqb}
 use borrow.Author.Tests.{eqb-false, ne-eqb}
 use Rattle.packet.specs.declared.header.Header.{Header}
 use Rattle.context.specs.Compressor.{sameConstants, started, begun, reset}
-use Rattle.context.specs.Range.{Held}
-use Rattle.context.specs.Relation.{Running}
+use Rattle.context.proofs.Relation.{Held}
+use Rattle.context.proofs.Relation.{Running}
 use Rattle.context.specs.declared.compressor.CompressorContext.{CompressorContext}
 use Rattle.context.proofs.Tests.{cond-both}
 

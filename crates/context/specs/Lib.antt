@@ -3,6 +3,4 @@ pub mod Compressor
 pub mod Decompressor
 pub mod All
 pub mod Sound
-pub mod Range
-pub mod Relation
 pub mod Cases

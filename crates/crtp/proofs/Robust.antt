@@ -20,14 +20,14 @@ use Rattle.headers.specs.Header.{headerOf}
 use Rattle.headers.specs.HeaderLaws.{headerOf-range}
 use Rattle.links.specs.FhLaws.{FhFits}
 use Rattle.context.proofs.AllLaws.{all-at}
-use Rattle.context.specs.Range as context
+use Rattle.context.proofs.Relation as context
 use Rattle.context.specs.Sound.{soundCompressor, emptyCompressor, emptyDecompressor}
 use Rattle.context.specs.Compressor.{skips, startedUnlessDue, requestedBy, requested}
 use Rattle.context.specs.declared.compressor.Usage.{Usage}
 use Rattle.context.specs.declared.compressor.Usage.the-variants.{Empty, Live}
 use Rattle.context.proofs.Tests.{cond-both}
 use Rattle.context.proofs.Ready.{started-held}
-use Rattle.context.specs.Relation.{Related, Arrives}
+use Rattle.context.proofs.Relation.{Related, Arrives}
 use Rattle.context.specs.declared.compressor.CompressorContext.{CompressorContext}
 use Rattle.context.specs.declared.decompressor.DecompressorContext.{DecompressorContext}
 use Rattle.context.specs.declared.step.Kind.{Kind}

@@ -10,8 +10,8 @@ use Rattle.packet.specs.Ranges.{HeaderInRange, PartsFit}
 use Rattle.packet.specs.declared.header.Header.{Header}
 use Rattle.links.specs.FitsLaws as links
 use Rattle.context.specs.Compressor.{firstStep, stepOf, listIf, partsOf, reset, begun}
-use Rattle.context.specs.Range as context
-use Rattle.context.specs.Relation.{Related, Arrives}
+use Rattle.context.proofs.Relation as context
+use Rattle.context.proofs.Relation.{Related, Arrives}
 use Rattle.context.specs.Sound.{soundCompressor, soundLink, emptyDecompressor}
 use Rattle.context.specs.declared.kept.Link.{Link}
 use Rattle.context.specs.declared.compressor.Usage.{Usage}

@@ -30,8 +30,8 @@ use Rattle.links.specs.CuLaws.{contextOf-cuBytes, allBytes-cuBytes}
 use Rattle.links.specs.Cr.{crBytes}
 use Rattle.links.specs.CrLaws.{contextOf-crBytes, allBytes-crBytes}
 use Rattle.context.proofs.AllLaws.{all-at}
-use Rattle.context.specs.Range as context
-use Rattle.context.specs.Relation.{Related, Arrives}
+use Rattle.context.proofs.Relation as context
+use Rattle.context.proofs.Relation.{Related, Arrives}
 use Rattle.context.specs.Sound.{soundCompressor, soundDecompressor}
 use Rattle.context.specs.declared.compressor.CompressorContext.{CompressorContext}
 use Rattle.context.specs.declared.decompressor.DecompressorContext.{DecompressorContext}

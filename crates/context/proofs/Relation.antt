@@ -1,14 +1,14 @@
 -- Iarwennol. The relation between the two ends' contexts.
 -- What holds when j packets on a context were lost since the last one accepted; n is the repeats.
--- Used by the laws of each step in proofs/, and by robustness over lists of calls (rule 10).
-use Prim.Native.Nat.{ℕ, _+_, _%_, _≤_, _<_}
+-- Used by the laws of each step, and by robustness over lists of calls (rule 10).
+use Prim.Native.Nat.{ℕ, _+_, _%_, _^_, _≤_, _<_}
 use mathlib.Core.Path.{_≡_}
-use mathlib.Core.Bool.{Bool, true, false, not}
+use mathlib.Core.Bool.{Bool, true, false}
 use Rattle.packet.specs.declared.header.Header.{Header}
 use Rattle.packet.specs.declared.parts.Parts.{Parts}
 use Rattle.context.specs.Field.{steps}
-use Rattle.context.specs.Decompressor.{filled, applied, rebuilt}
-use Rattle.context.specs.Range.{Held}
+use Rattle.context.specs.Compressor.{checksumSent}
+use Rattle.context.specs.Decompressor.{filled, applied, checksumRead, rebuilt}
 use Rattle.context.specs.declared.kept.Link.{Link}
 use Rattle.context.specs.declared.compressor.Usage.the-variants as usage
 use Rattle.context.specs.declared.compressor.CompressorContext.{CompressorContext}
@@ -56,7 +56,32 @@ pub record Near (w n j : ℕ) (v : Seen) (t : Track) : Type 0 where
   pub delta : t .deltaDue + j ≤ n → v .delta ≡ t .delta
   pub value : t .due + j ≤ n → (v .delta ≡ t .delta) × (t .last ≡ steps w (v .last) (v .delta) j)
 
----- The two contexts
+---- The sender alone
+
+-- its numbers, each within its type
+pub record Held (s : CompressorContext) : Type 0 where
+  pub id : s .ip .id < 2 ^ 16
+  pub sequence : s .rtp .sequence < 2 ^ 16
+  pub timestamp : s .rtp .timestamp < 2 ^ 32
+  pub did : s .deltas .id < 2 ^ 16
+  pub dts : s .deltas .timestamp < 2 ^ 32
+  pub link : s .link .sequence < 16
+
+-- while a run is under way the deltas are 1 and 0, and are not repeated
+pub record Running (s : CompressorContext) : Type 0 where
+  pub id : s .deltas .id ≡ 1
+  pub timestamp : s .deltas .timestamp ≡ 0
+  pub did : s .due .did ≡ 0
+  pub dts : s .due .dts ≡ 0
+
+---- The receiver alone
+
+-- it takes CU and CR, and knows from where to count them
+pub record Listening (v : DecompressorContext) : Type 0 where
+  pub status : v .status ≡ Live
+  pub bound : v .link .sequence < 16
+
+---- Both
 
 -- the fields that only a full header carries
 pub record Constants (v : DecompressorContext) (s : CompressorContext) : Type 0 where
@@ -66,22 +91,14 @@ pub record Constants (v : DecompressorContext) (s : CompressorContext) : Type 0 
   pub flags : v .ip .flags ≡ s .ip .flags
   pub padding : v .rtp .padding ≡ s .rtp .padding
   pub extension : v .rtp .extension ≡ s .rtp .extension
-  pub carried : v .carried ≡ not (s .blank)
-
--- while a run is under way the deltas are 1 and 0, and are not repeated
-pub record Running (s : CompressorContext) : Type 0 where
-  pub id : s .deltas .id ≡ 1
-  pub timestamp : s .deltas .timestamp ≡ 0
-  pub did : s .due .did ≡ 0
-  pub dts : s .due .dts ≡ 0
+  pub carried : checksumRead v ≡ checksumSent s
 
 -- a full header of the last run was accepted
 pub record Close (n j : ℕ) (v : DecompressorContext) (s : CompressorContext) : Type 0 where
-  pub status : v .status ≡ Live
+  pub running : 1 ≤ s .due .full → Running s
+  pub listening : Listening v
   pub constants : Constants v s
   pub sequence : s .link .sequence ≡ (v .link .sequence + j + 1) % 16
-  pub bound : v .link .sequence < 16
-  pub running : 1 ≤ s .due .full → Running s
   pub id : Near 16 n j (idSeen v) (idTrack s)
   pub number : Near 16 n j (sequenceSeen v) (sequenceTrack s)
   pub timestamp : Near 32 n j (timestampSeen v) (timestampTrack s)
@@ -119,5 +136,5 @@ pub record Arrives (n : ℕ) (v : DecompressorContext) (h : Header) (a : Step) :
   pub accepts : receivedOf n h a v ≡ record { verdict = Accepted; gap = gap; context = after }
   pub exact : rebuilt after (a .parts .checksum) ≡ h
   pub live : isFull (a .kind) ≡ false → v .status ≡ Live
-  pub carries : isFull (a .kind) ≡ false → v .carried ≡ not (a .context .blank)
+  pub carries : isFull (a .kind) ≡ false → checksumRead v ≡ checksumSent (a .context)
   pub keeps : Related n 0 after (a .context)
