@@ -34,11 +34,11 @@ fn lowest_of(t: Table, f: Flow) -> Found
     requires { ⌜ t .settings .contexts ≤ 64 ⌝ }
     ensures { λ r. ⌜ r ≡ lowest (isOf f) (t .contexts) 0 (t .settings .contexts) ⌝ }
 {
-    let k = t.settings.contexts as usize;
+    let count = t.settings.contexts as usize;
     let mut i = 0;
-    while i < k {
-        let c = t.contexts[i];
-        if is_of(f, c) {
+    while i < count {
+        let context = t.contexts[i];
+        if is_of(f, context) {
             return Found::At(i);
         }
         i += 1;
@@ -50,11 +50,11 @@ fn lowest_empty(t: Table) -> Found
     requires { ⌜ t .settings .contexts ≤ 64 ⌝ }
     ensures { λ r. ⌜ r ≡ lowest isEmpty (t .contexts) 0 (t .settings .contexts) ⌝ }
 {
-    let k = t.settings.contexts as usize;
+    let count = t.settings.contexts as usize;
     let mut i = 0;
-    while i < k {
-        let c = t.contexts[i];
-        if is_empty(c) {
+    while i < count {
+        let context = t.contexts[i];
+        if is_empty(context) {
             return Found::At(i);
         }
         i += 1;

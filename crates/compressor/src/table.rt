@@ -26,8 +26,8 @@ pub struct Table {
 pub fn is_empty(c: CompressorContext) -> bool
     ensures { λ r. ⌜ r ≡ isEmpty c ⌝ }
 {
-    let s = c.status;
-    match s {
+    let status = c.status;
+    match status {
         Usage::Empty => true,
         Usage::Live => false,
     }
@@ -39,13 +39,13 @@ fn all_sound(t: Table) -> bool
     requires { ⌜ t .settings .repeats ≤ 14 ⌝ }
     ensures { λ r. ⌜ r ≡ (all (soundCompressor (t .settings .repeats)) (t .contexts) && all isEmpty (drop (t .settings .contexts) (t .contexts))) ⌝ }
 {
-    let n = t.settings.repeats;
-    let k = t.settings.contexts as usize;
+    let repeats = t.settings.repeats;
+    let count = t.settings.contexts as usize;
     let mut ok = true;
     let mut i = 0;
     while i < Settings::PLACES {
-        let c = t.contexts[i];
-        ok = ok & sound_context(n, c) & (is_empty(c) | (i < k));
+        let context = t.contexts[i];
+        ok = ok & sound_context(repeats, context) & (is_empty(context) | (i < count));
         i += 1;
     }
     ok
@@ -55,8 +55,8 @@ fn all_sound(t: Table) -> bool
 pub fn sound(t: Table) -> bool
     ensures { λ r. ⌜ r ≡ soundOf t ⌝ }
 {
-    let s = t.settings;
-    if s.is_sound() {
+    let settings = t.settings;
+    if settings.is_sound() {
         return all_sound(t);
     }
     false
@@ -65,10 +65,10 @@ pub fn sound(t: Table) -> bool
 fn empty_table(s: Settings) -> Table
     ensures { λ r. ⌜ r ≡ emptyTable s ⌝ }
 {
-    let c = empty_context();
+    let context = empty_context();
     Table {
         settings: s,
-        contexts: [c; Settings::PLACES],
+        contexts: [context; Settings::PLACES],
     }
 }
 

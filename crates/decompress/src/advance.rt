@@ -16,9 +16,9 @@ fn move_ip(g: u8, c: DecompressorContext, p: Parts) -> Ip
     requires { ⌜ 1 ≤ g ⌝ }
     ensures { λ r. ⌜ r ≡ ipAfter g c p ⌝ }
 {
-    let d = p.did;
+    let did = p.did;
     let whole = p.id;
-    let id = steps::move16(g, c.ip.id, c.deltas.id, d, whole);
+    let id = steps::move16(g, c.ip.id, c.deltas.id, did, whole);
     let mut ip = c.ip;
     ip.id = id;
     ip

@@ -25,8 +25,8 @@ pub struct Table {
 pub fn is_empty(c: DecompressorContext) -> bool
     ensures { λ r. ⌜ r ≡ isEmpty c ⌝ }
 {
-    let s = c.status;
-    match s {
+    let status = c.status;
+    match status {
         Status::Empty => true,
         Status::Live => false,
         Status::Broken => false,
@@ -38,12 +38,12 @@ pub fn is_empty(c: DecompressorContext) -> bool
 fn all_sound(t: Table) -> bool
     ensures { λ r. ⌜ r ≡ (all soundDecompressor (t .contexts) && all isEmpty (drop (t .settings .contexts) (t .contexts))) ⌝ }
 {
-    let k = t.settings.contexts as usize;
+    let count = t.settings.contexts as usize;
     let mut ok = true;
     let mut i = 0;
     while i < Settings::PLACES {
-        let c = t.contexts[i];
-        ok = ok & sound_context(c) & (is_empty(c) | (i < k));
+        let context = t.contexts[i];
+        ok = ok & sound_context(context) & (is_empty(context) | (i < count));
         i += 1;
     }
     ok
@@ -53,8 +53,8 @@ fn all_sound(t: Table) -> bool
 pub fn sound(t: Table) -> bool
     ensures { λ r. ⌜ r ≡ soundOf t ⌝ }
 {
-    let s = t.settings;
-    if s.is_sound() {
+    let settings = t.settings;
+    if settings.is_sound() {
         return all_sound(t);
     }
     false
@@ -63,10 +63,10 @@ pub fn sound(t: Table) -> bool
 fn empty_table(s: Settings) -> Table
     ensures { λ r. ⌜ r ≡ emptyTable s ⌝ }
 {
-    let c = empty_context();
+    let context = empty_context();
     Table {
         settings: s,
-        contexts: [c; Settings::PLACES],
+        contexts: [context; Settings::PLACES],
     }
 }
 

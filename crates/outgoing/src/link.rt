@@ -35,8 +35,8 @@ pub fn link_size(h: Header, a: Step) -> usize
     let after = a.context;
     let carried = sends_checksum(after);
     let parts = a.parts;
-    let k = a.kind;
-    match k {
+    let kind = a.kind;
+    match kind {
         Kind::FullHeader => fh_size(h),
         Kind::CompressedUdp => cu_size(carried, parts),
         Kind::CompressedRtp => cr_size(carried, parts),
@@ -52,8 +52,8 @@ pub fn put_link(out: &mut [u8], i: u8, total: u16, h: Header, a: Step) -> usize
     let carried = sends_checksum(after);
     let parts = a.parts;
     let link = a.link;
-    let k = a.kind;
-    match k {
+    let kind = a.kind;
+    match kind {
         Kind::FullHeader => put_fh(out, 0, i, link.generation, link.sequence, total, h),
         Kind::CompressedUdp => put_cu(out, 0, i, link.sequence, carried, parts),
         Kind::CompressedRtp => put_cr(out, 0, i, link.sequence, carried, parts),

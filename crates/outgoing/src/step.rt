@@ -12,8 +12,8 @@ pub fn step_on(n: u8, h: Header, c: CompressorContext) -> Step
     requires { ⌜ n ≤ 14 ⌝ }
     ensures { λ r. ⌜ r ≡ stepOn n h c ⌝ }
 {
-    let s = c.status;
-    match s {
+    let status = c.status;
+    match status {
         Usage::Empty => compress::step::first_packet(
             n,
             h,

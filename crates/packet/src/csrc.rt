@@ -40,7 +40,7 @@ fn same_words(a: [u32; Csrc::PLACES], b: [u32; Csrc::PLACES]) -> bool
 pub fn same_list(a: Csrc, b: Csrc) -> bool
     ensures { λ r. ⌜ r ≡ sameList a b ⌝ }
 {
-    let x = a.words;
-    let y = b.words;
-    (a.count == b.count) & same_words(x, y)
+    let words = a.words;
+    let others = b.words;
+    (a.count == b.count) & same_words(words, others)
 }

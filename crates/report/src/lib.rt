@@ -27,8 +27,8 @@ use settings::Settings;
 fn records_of(c: DecompressorContext) -> usize
     ensures { λ r. ⌜ (r ≡ cond (isBroken c) 1 0) × (r ≤ 1) ⌝ }
 {
-    let s = c.status;
-    match s {
+    let status = c.status;
+    match status {
         Status::Empty => 0,
         Status::Live => 0,
         Status::Broken => 1,
@@ -41,8 +41,8 @@ fn count_records(contexts: [DecompressorContext; Settings::PLACES]) -> usize
     let mut n = 0;
     let mut i = 0;
     while i < Settings::PLACES {
-        let c = contexts[i];
-        n += records_of(c);
+        let context = contexts[i];
+        n += records_of(context);
         i += 1;
     }
     n
@@ -53,8 +53,8 @@ fn put_state(out: &mut [u8], at: usize, i: usize, c: DecompressorContext) -> usi
     requires { ⌜ (i < 64) × (soundDecompressor c ≡ true) × (at + length (recordsBytes (statesOf i c)) ≤ length (now out)) ⌝ }
     ensures { λ r. ⌜ Wrote (now (out .entry)) (now (out .exit)) at r (recordsBytes (statesOf i c)) ⌝ }
 {
-    let s = c.status;
-    match s {
+    let status = c.status;
+    match status {
         Status::Empty => at,
         Status::Live => at,
         Status::Broken => {
@@ -71,8 +71,8 @@ fn put_states(out: &mut [u8], at: usize, contexts: [DecompressorContext; Setting
     let mut o = at;
     let mut i = 0;
     while i < Settings::PLACES {
-        let c = contexts[i];
-        o = put_state(out, o, i, c);
+        let context = contexts[i];
+        o = put_state(out, o, i, context);
         i += 1;
     }
     o

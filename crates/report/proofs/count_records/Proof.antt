@@ -19,11 +19,11 @@ abbrev μ-loop : tie.MeasureT-loop
 loop-holds : tie.Need-loop-holds Inv-loop μ-loop
 loop-holds c = search (needs, length-mapped)
 
-mul-c : tie.Need-mul-c Inv-loop μ-loop
-mul-c c = omega arith
+mul-context : tie.Need-mul-context Inv-loop μ-loop
+mul-context c = omega arith
 
-array-copy-out-c : tie.Need-array-copy-out-c Inv-loop μ-loop
-array-copy-out-c c = search needs
+array-copy-out-context : tie.Need-array-copy-out-context Inv-loop μ-loop
+array-copy-out-context c = search needs
 
 records-of-requires : tie.Need-records-of-requires Inv-loop μ-loop
 records-of-requires c κs = search needs
@@ -54,8 +54,8 @@ count-records-spec =
     Inv-loop
     μ-loop
     loop-holds
-    mul-c
-    array-copy-out-c
+    mul-context
+    array-copy-out-context
     records-of-requires
     add-n
     add-i

@@ -27,11 +27,11 @@ abbrev μ-loop : tie.MeasureT-loop
 loop-holds : tie.Need-loop-holds Inv-loop μ-loop
 loop-holds c = (search (needs, length-mapped), c .before .pre .0, omega arith, c .before .pre .1, wrote-nothing)
 
-mul-c : tie.Need-mul-c Inv-loop μ-loop
-mul-c c = omega arith
+mul-context : tie.Need-mul-context Inv-loop μ-loop
+mul-context c = omega arith
 
-array-copy-out-c : tie.Need-array-copy-out-c Inv-loop μ-loop
-array-copy-out-c c = search needs
+array-copy-out-context : tie.Need-array-copy-out-context Inv-loop μ-loop
+array-copy-out-context c = search needs
 
 put-state-requires : tie.Need-put-state-requires Inv-loop μ-loop
 put-state-requires c κs = let l = c .before .before .before .loop in
@@ -67,8 +67,8 @@ put-states-spec =
     Inv-loop
     μ-loop
     loop-holds
-    mul-c
-    array-copy-out-c
+    mul-context
+    array-copy-out-context
     put-state-requires
     add-i
     loop-less

@@ -19,17 +19,17 @@ Inv-loop t n k ok₀ i₀ ok i =
 abbrev μ-loop : tie.MeasureT-loop
 μ-loop t n k ok₀ i₀ ok i = 64 - i
 
-cast-k : tie.Need-cast-k Inv-loop μ-loop
-cast-k c = search needs
+cast-count : tie.Need-cast-count Inv-loop μ-loop
+cast-count c = search needs
 
 loop-holds : tie.Need-loop-holds Inv-loop μ-loop
 loop-holds c = let a = c .args in (search (needs, length-mapped), search needs, both-start (soundCompressor (a .t1 .settings .repeats)) isEmpty (a .t1 .contexts) (a .t1 .settings .contexts))
 
-mul-c : tie.Need-mul-c Inv-loop μ-loop
-mul-c c = omega arith
+mul-context : tie.Need-mul-context Inv-loop μ-loop
+mul-context c = omega arith
 
-element-copy-out-c : tie.Need-element-copy-out-c Inv-loop μ-loop
-element-copy-out-c c = search needs
+element-copy-out-context : tie.Need-element-copy-out-context Inv-loop μ-loop
+element-copy-out-context c = search needs
 
 sound-context-requires : tie.Need-sound-context-requires Inv-loop μ-loop
 sound-context-requires c κs = omega arith
@@ -61,10 +61,10 @@ all-sound-spec =
     (tie.spec
     Inv-loop
     μ-loop
-    cast-k
+    cast-count
     loop-holds
-    mul-c
-    element-copy-out-c
+    mul-context
+    element-copy-out-context
     sound-context-requires
     is-empty-requires
     add-i
