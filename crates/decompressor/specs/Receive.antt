@@ -16,7 +16,7 @@ use Rattle.links.specs.declared.head.Head.{Head}
 use Rattle.links.specs.declared.head.ReadParts.{ReadParts}
 use Rattle.links.specs.declared.whole.ReadWhole.{ReadWhole}
 use Rattle.links.specs.Head.{contextOf, headOf}
-use Rattle.links.specs.Cu.{cuOf}
+use Rattle.links.specs.Cu.{cuFlagsOf, cuOf}
 use Rattle.links.specs.Cr.{crOf}
 use Rattle.links.specs.Whole.{wholeOf}
 use Rattle.links.specs.declared.fh.FullHeader.{FullHeader}
@@ -102,7 +102,7 @@ module _ (old : OldForm) where
   -- the context is live: the fields are read by type. h: the flag byte
   abbrev pub receiveUdp : Table → (i : ℕ) → Head → (s output : List ℕ) → Result
   receiveUdp t i h s output =
-      cond (h .flags .a)
+      cond (cuFlagsOf (h .flags) .values)
       (receiveParts (cuOf s (h .place) (h .flags) (contextAt t i .carried)) t i (h .flags .low) s output)
       (old t i h s output)
 

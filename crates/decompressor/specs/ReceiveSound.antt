@@ -24,8 +24,8 @@ use Rattle.links.specs.declared.whole.ReadWhole.{ReadWhole}
 use Rattle.links.specs.declared.judgement.Judgement.{Judgement}
 use Rattle.links.specs.declared.judgement.Judgement.the-variants.{Good, Cut, Forbidden, NoSuchContext}
 use Rattle.links.specs.Head.{contextOf, headOf}
-use Rattle.links.specs.HeadLaws.{headOf-low}
-use Rattle.links.specs.Cu.{cuOf}
+use Rattle.links.specs.HeadLaws.{contextOf-first, headOf-low}
+use Rattle.links.specs.Cu.{cuFlagsOf, cuOf}
 use Rattle.links.specs.Cr.{crOf}
 use Rattle.links.specs.Whole.{wholeOf}
 use Rattle.links.specs.Fh.{fhJudged, fhOf}
@@ -202,7 +202,7 @@ module _ (old : OldForm)
   module _ (i : ℕ) (among : i < t .settings .contexts) (h : Head) (s : List ℕ) (small : h .flags .low < 16) where
     receiveUdp-way : Way t i (λ output. receiveUdp old t i h s output)
     receiveUdp-way =
-        way-if (h .flags .a)
+        way-if (cuFlagsOf (h .flags) .values)
         (λ output. receiveParts (cuOf s (h .place) (h .flags) (contextAt t i .carried)) t i (h .flags .low) s output)
         (λ output. old t i h s output)
         (λ e. receiveParts-way t i sound among (cuOf s (h .place) (h .flags) (contextAt t i .carried)) (h .flags .low) s small
@@ -239,12 +239,16 @@ module _ (old : OldForm)
         (refuses t 4 (omega arith) same (λ output. refl)))
         (refuses t 6 (omega arith) same (λ output. refl))
 
+    -- the context number is the first byte
+    first-way : (kind : ℕ) → Way t (byteAt s 0) (λ output. receiveCompressed old kind t s output)
+    first-way kind = rw (← contextOf-first s) (receiveCompressed-way kind)
+
     ---- By type
 
     module _ (a : AllBytes s) where
       fullOr-way : (b : Bool) (kind : ℕ) → Way t (cond b (byteAt s 3) (byteAt s 0)) (λ output. cond b (receiveFull t s output) (receiveCompressed old kind t s output))
       fullOr-way true kind = receiveFull-way t s a
-      fullOr-way false kind = receiveCompressed-way kind
+      fullOr-way false kind = first-way kind
 
       receiveKind-way : (kind : ℕ) → Way t (named kind s) (λ output. receiveKind old kind t s output)
       unfolding receiveKind

@@ -1,7 +1,9 @@
+pub mod Rtp
 pub mod Header
 pub mod Checksum
 pub mod Compressible
 pub mod Range
+pub mod RtpLaws
 pub mod BytesLaws
 pub mod ListLaws
 pub mod CompressibleLaws

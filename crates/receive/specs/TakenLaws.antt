@@ -15,7 +15,7 @@ use Rattle.links.specs.declared.head.ReadParts.{ReadParts}
 use Rattle.links.specs.declared.whole.ReadWhole.{ReadWhole}
 use Rattle.links.specs.Head.{headOf}
 use Rattle.links.specs.HeadLaws.{headOf-low, headOf-within}
-use Rattle.links.specs.Cu.{cuOf}
+use Rattle.links.specs.Cu.{cuFlagsOf, cuOf}
 use Rattle.links.specs.Cr.{crOf}
 use Rattle.links.specs.Whole.{wholeOf}
 use Rattle.context.specs.Refusal as refusal
@@ -101,7 +101,7 @@ ready-head t i s sound some few = record {
   few = sound-repeats t sound;
   sound = sound-contextAt t i sound;
   link = headOf-low s;
-  within = headOf-within s some;
+  within = headOf-within s;
   short = few;
 }
 
@@ -141,14 +141,14 @@ module _ (n : ℕ) (c : DecompressorContext) (x : Taken) (after s output : List 
   }
 
   module _ (h : Head) where
-    pub takes-udp : h .flags .a ≡ true → Takes n c x after (λ t i. receiveParts (cuOf s (h .place) (h .flags) (c .carried)) t i (h .flags .low) s output)
+    pub takes-udp : cuFlagsOf (h .flags) .values ≡ true → Takes n c x after (λ t i. receiveParts (cuOf s (h .place) (h .flags) (c .carried)) t i (h .flags .low) s output)
         → Takes n c x after (λ t i. receiveUdp oldForm t i h s output)
     takes-udp g k = record {
       anywhere = λ t i e f. k .anywhere t i e f
           ∙ sym (λ j. cond (g j) (receiveParts (cuOf s (h .place) (h .flags) (f j .carried)) t i (h .flags .low) s output) (oldForm t i h s output));
     }
 
-    pub takes-old : h .flags .a ≡ false → Takes n c x after (λ t i. oldForm t i h s output) → Takes n c x after (λ t i. receiveUdp oldForm t i h s output)
+    pub takes-old : cuFlagsOf (h .flags) .values ≡ false → Takes n c x after (λ t i. oldForm t i h s output) → Takes n c x after (λ t i. receiveUdp oldForm t i h s output)
     takes-old g k = record {
       anywhere = λ t i e f. k .anywhere t i e f
           ∙ sym (λ j. cond (g j) (receiveParts (cuOf s (h .place) (h .flags) (contextAt t i .carried)) t i (h .flags .low) s output) (oldForm t i h s output));

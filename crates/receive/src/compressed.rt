@@ -24,6 +24,8 @@ use links::head::Head;
 use links::head::ReadParts;
 use links_read::cr::read_cr;
 use links_read::cu::read_cu;
+use links_read::cu::split_flags;
+use links_read::head::read_context;
 use links_read::head::read_head;
 use links_read::whole::read_cu_whole;
 
@@ -64,7 +66,8 @@ fn receive_udp(n: u8, c: DecompressorContext, h: Head, s: &[u8], out: &mut [u8])
     ensures { λ r. ⌜ Takes n c r (now (out .exit)) (λ t i. receiveUdp oldForm t i h (now (s .entry)) (now (out .entry))) ⌝ }
 {
     let f = h.flags;
-    if f.a {
+    let flags = split_flags(f);
+    if flags.values {
         let x = read_cu(s, h.place, f, c.carried);
         return receive_parts(n, f.low, c, x, s, out);
     }
@@ -110,14 +113,16 @@ pub fn receive_compressed(kind: u32, t: Table, s: &[u8], out: &mut [u8]) -> Answ
     ensures { λ r. ⌜ said r (now (out .exit)) ≡ receiveCompressed oldForm kind t (now (s .entry)) (now (out .entry)) ⌝ }
 {
     let settings = t.settings;
-    let number = s[0];
+    let first = read_context(s);
+    let field = first.field;
+    let number = field.value;
     if settings.contexts <= number {
         return Answer {
             outcome: Outcome::Refused(Refusal::NoSuchContext),
             table: t,
         };
     }
-    let h = read_head(s);
+    let h = read_head(s, first.place);
     let place = h.place;
     let o = place.outcome;
     if !is_good(o) {

@@ -27,22 +27,46 @@ enum-told-2 : tie.Need-enum-told-2 Inv-loop μ-loop
 enum-told-2 c = search needs
 
 returns : tie.Need-returns Inv-loop μ-loop
-returns c = let l = c .before .before .before .before .loop in
-    rw (l .inv .1, recordsJudged-more _ _ (l .i) _ (c .before .before .before .loop-test .taken), ← c .before .before .judge-record .ensures, c .enum-told2 .given .1)
+returns c =
+    let b3 = c .before .before .before in
+    let b4 = b3 .before in
+    let l = b4 .loop in
+    rw (
+      l .inv .1,
+      recordsJudged-more _ _ (l .i) _ (b3 .loop-test .taken),
+      ← c .before .before .judge-record .ensures,
+      c .enum-told2 .given .1,
+    )
 
 enum-told-3 : tie.Need-enum-told-3 Inv-loop μ-loop
 enum-told-3 c = search needs
 
 returns-2 : tie.Need-returns-2 Inv-loop μ-loop
-returns-2 c = let l = c .before .before .before .before .loop in
-    rw (l .inv .1, recordsJudged-more _ _ (l .i) _ (c .before .before .before .loop-test .taken), ← c .before .before .judge-record .ensures, c .enum-told3 .given .1)
+returns-2 c =
+    let b3 = c .before .before .before in
+    let b4 = b3 .before in
+    let l = b4 .loop in
+    rw (
+      l .inv .1,
+      recordsJudged-more _ _ (l .i) _ (b3 .loop-test .taken),
+      ← c .before .before .judge-record .ensures,
+      c .enum-told3 .given .1,
+    )
 
 enum-told-4 : tie.Need-enum-told-4 Inv-loop μ-loop
 enum-told-4 c = search needs
 
 returns-3 : tie.Need-returns-3 Inv-loop μ-loop
-returns-3 c = let l = c .before .before .before .before .loop in
-    rw (l .inv .1, recordsJudged-more _ _ (l .i) _ (c .before .before .before .loop-test .taken), ← c .before .before .judge-record .ensures, c .enum-told4 .given .1)
+returns-3 c =
+    let b3 = c .before .before .before in
+    let b4 = b3 .before in
+    let l = b4 .loop in
+    rw (
+      l .inv .1,
+      recordsJudged-more _ _ (l .i) _ (b3 .loop-test .taken),
+      ← c .before .before .judge-record .ensures,
+      c .enum-told4 .given .1,
+    )
 
 add-i : tie.Need-add-i Inv-loop μ-loop
 add-i c = search needs
@@ -51,8 +75,17 @@ loop-less : tie.Need-loop-less Inv-loop μ-loop
 loop-less c = search needs
 
 loop-again : tie.Need-loop-again Inv-loop μ-loop
-loop-again c = let l = c .before .before .before .before .loop in
-    (omega arith, l .inv .1 ∙ rw (recordsJudged-more _ _ (l .i) _ (c .before .before .before .loop-test .taken), ← c .before .before .judge-record .ensures, c .enum-told .given .1))
+loop-again c =
+    let b3 = c .before .before .before in
+    let b4 = b3 .before in
+    let l = b4 .loop in (
+      omega arith,
+      l .inv .1 ∙ rw (
+        recordsJudged-more _ _ (l .i) _ (b3 .loop-test .taken),
+        ← c .before .before .judge-record .ensures,
+        c .enum-told .given .1,
+      ),
+    )
 
 returns-4 : tie.Need-returns-4 Inv-loop μ-loop
 returns-4 c = let l = c .before .loop in
