@@ -1,6 +1,11 @@
 use Rattle.links.specs.Cr.{secondOf, secondWith}
 use native.Mathlib.Omega.{arith}
-use mathlib.Core.Path.{refl}
+use mathlib.Core.Path.{refl, ap}
+use mathlib.Core.Bool.{true}
+use Prim.Native.Nat.{ℕ}
+use Rattle.fields.specs.declared.place.Place.{Place}
+use Rattle.links.specs.declared.cr.CrFlags.{CrFlags}
+use Rattle.links.specs.declared.cr.Second.{Second}
 use borrow.Author.Needs.{needs}
 use Rattle.links_read.proofs.cr.read_second.Statement.{statement}
 use Rattle.links_read.proofs.cr.read_second.Tie as tie
@@ -14,16 +19,19 @@ split-requires c κs = search needs
 split-flags-requires : tie.Need-split-flags-requires
 split-flags-requires c κs = search needs
 
+-- what a second byte gives, with its flags f
+abbrev given : Place → CrFlags → ℕ → Second
+given p f count = record { place = p; listed = true; flags = f; count = count }
+
 returns : tie.Need-returns
 unfolding secondOf secondWith
 returns c =
-    rw (
-      c .before .split-flags .ensures,
-      ← c .before .before .before .before .before .next-byte .ensures,
-      ← c .before .before .split .ensures .0,
-      c .if1 .taken,
+    let byte = c .before .before .before .before .before .next-byte in
+    let second = c .before .before .split in
+    rw (← byte .ensures, ← second .ensures .0, c .if1 .taken) (
+      ap (λ (f : CrFlags). given (byte .result .place) f (second .result .low)) (c .before .split-flags .ensures),
+      second .ensures .1,
     )
-    (refl, c .before .before .split .ensures .1)
 
 returns-2 : tie.Need-returns-2
 unfolding secondOf secondWith

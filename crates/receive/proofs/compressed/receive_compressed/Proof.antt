@@ -99,8 +99,9 @@ returns-3 c =
     let r = b9 .read-head .ensures .0 ∙ headAt-context (a .s .now) (k .result) (k .ensures) in
     let e = rw (b7 .is-good .ensures, r) at (not-false (b7 .is-good .result) (b6 .if2 .left)) in
     let x = rw r at (b3 .receive-on .ensures) in
+    let h = headOf (a .s .now) in
     x .anywhere (a .t2) (k .result .field .value) refl refl
-    ∙ ap (λ (i : ℕ). receiveOn oldForm (contextAt (a .t2) i .status) (a .kind) (a .t2) i (headOf (a .s .now)) (a .s .now) (a .out .now)) n
+    ∙ ap (λ (i : ℕ). receiveOn oldForm (contextAt (a .t2) i .status) (a .kind) (a .t2) i h (a .s .now) (a .out .now)) n
     ∙ sym (compressed-on oldForm (a .kind) (a .t2) (a .s .now) (a .out .now) (omega (arith, n, b10 .if1 .left)) e)
 
 pub receive-compressed-spec : {M : Type 1} → statement M
