@@ -1,2 +1,2 @@
--- Iarwennol. Laws that only the proofs of this crate cite.
-mod Bits
+-- Iarwennol. Laws that only proofs cite.
+pub mod Bits

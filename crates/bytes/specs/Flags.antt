@@ -1,5 +1,5 @@
--- Iarwennol. The flag byte, its bits named from the top down (rules 6.2, 6.3).
--- Used by the link layouts (links) and the RTP header's first byte (headers).
+-- Iarwennol. The flag byte, its bits from the top down (rules 6.2, 6.3, 6.6).
+-- Used by the link layouts (links), each of which names the bits.
 use Prim.Native.Nat.{ℕ, _+_, _*_, _/_, _%_, _^_}
 use mathlib.Core.Bool.{Bool, true, false}
 use lib.Dec.{eqb}
@@ -14,7 +14,7 @@ digit true = 1
 digit false = 0
 
 abbrev pub flagsOf : ℕ → Flags
-flagsOf b = record { a = bitAt 7 b; b = bitAt 6 b; c = bitAt 5 b; d = bitAt 4 b; low = b % 16 }
+flagsOf b = record { bit7 = bitAt 7 b; bit6 = bitAt 6 b; bit5 = bitAt 5 b; bit4 = bitAt 4 b; low = b % 16 }
 
 abbrev pub byteOf : Flags → ℕ
-byteOf f = digit (f .a) * 128 + digit (f .b) * 64 + digit (f .c) * 32 + digit (f .d) * 16 + f .low
+byteOf f = digit (f .bit7) * 128 + digit (f .bit6) * 64 + digit (f .bit5) * 32 + digit (f .bit4) * 16 + f .low

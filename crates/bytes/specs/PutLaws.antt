@@ -26,7 +26,8 @@ sets-front bs l h = sets-eq bs l 0 (omega arith) ∙ rw zero-add
 ---- Wrote
 
 -- one run after another
-pub wrote-then : {l₀ l₁ l₂ : List ℕ} {at r₁ r₂ : ℕ} {xs ys : List ℕ} → Wrote l₀ l₁ at r₁ xs → Wrote l₁ l₂ r₁ r₂ ys → Wrote l₀ l₂ at r₂ (xs ++ ys)
+pub wrote-then : {l₀ l₁ l₂ : List ℕ} {at r₁ r₂ : ℕ} {xs ys : List ℕ} → Wrote l₀ l₁ at r₁ xs → Wrote l₁ l₂ r₁ r₂ ys
+    → Wrote l₀ l₂ at r₂ (xs ++ ys)
 wrote-then {l₀} {l₁} {l₂} {at} {r₁} {r₂} {xs} {ys} a b = record {
   ends = omega (arith, a .ends, b .ends, length-append xs ys);
   holds = b .holds ∙ rw (a .holds) (sets-then xs ys l₀ at r₁ (a .ends));

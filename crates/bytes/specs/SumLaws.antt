@@ -45,7 +45,8 @@ folded-suc t u e = rw e
 pub folded-folded : (a b : ℕ) → folded (folded a + b) ≡ folded (a + b)
 unfolding folded
 folded-folded zero b = refl
-folded-folded (suc t) b = rw (folded-suc (t % 65535 + b) (t % 65535 + 1 + b) (omega arith), folded-suc (t + b) (suc t + b) (omega arith)) (omega arith)
+folded-folded (suc t) b =
+    rw (folded-suc (t % 65535 + b) (t % 65535 + 1 + b) (omega arith), folded-suc (t + b) (suc t + b) (omega arith)) (omega arith)
 
 pub plus-folded : (a b : ℕ) → a < 65536 → b < 65536 → plus a b ≡ folded (a + b)
 unfolding plus
@@ -77,7 +78,8 @@ sumOf-folded start h none = sym (rw (add-zero) (folded-word start h))
 sumOf-folded start h (more {w} {ws} k a) = sumOf-folded (plus start w) (plus-lt h k) a ∙ folded-step start w (total ws) h k
 
 -- so the order of the words does not matter
-pub sumOf-order : (start : ℕ) {xs ys : List ℕ} → start < 65536 → AllWords xs → AllWords ys → total xs ≡ total ys → sumOf start xs ≡ sumOf start ys
+pub sumOf-order : (start : ℕ) {xs ys : List ℕ} → start < 65536 → AllWords xs → AllWords ys → total xs ≡ total ys
+    → sumOf start xs ≡ sumOf start ys
 sumOf-order start h a b e = sumOf-folded start h a ∙ rw e (sym (sumOf-folded start h b))
 
 ---- wordsOf
@@ -114,5 +116,6 @@ module _ (s : List ℕ) (i : ℕ) where
   wordsOf-end h = rw (drop-of-length-le s h)
 
   -- the first word of a part, for sums over parts of a packet
-  pub wordsOf-part : (n : ℕ) → i + 2 ≤ length s → wordsOf (take (suc (suc n)) (drop i s)) ≡ wordAt s i ∷ wordsOf (take n (drop (i + 2) s))
+  pub wordsOf-part : (n : ℕ) → i + 2 ≤ length s
+      → wordsOf (take (suc (suc n)) (drop i s)) ≡ wordAt s i ∷ wordsOf (take n (drop (i + 2) s))
   wordsOf-part n h = rw (drop-two h)

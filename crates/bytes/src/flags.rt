@@ -4,13 +4,12 @@ ghost use Rattle.bytes.specs.Flags.{flagsOf, byteOf};
 
 // A flag byte: four flags from the top bit down, and the number of its low four bits.
 //
-// Every flag byte of the link has this form: M S T I with the link sequence, F I dT dI with the link sequence, and both
-// second bytes, whose number is the CSRC count. Version and count of an RTP header are read by it too.
+// The bits have the names of their places here. Each layout of `links` gives them their own.
 pub struct Flags {
-    pub a: bool,
-    pub b: bool,
-    pub c: bool,
-    pub d: bool,
+    pub bit7: bool,
+    pub bit6: bool,
+    pub bit5: bool,
+    pub bit4: bool,
     pub low: u8,
 }
 
@@ -19,10 +18,10 @@ pub fn split(byte: u8) -> Flags
     ensures { λ r. ⌜ (r ≡ flagsOf byte) × (r .low < 16) ⌝ }
 {
     Flags {
-        a: (byte >> 7) & 1 == 1,
-        b: (byte >> 6) & 1 == 1,
-        c: (byte >> 5) & 1 == 1,
-        d: (byte >> 4) & 1 == 1,
+        bit7: (byte >> 7) & 1 == 1,
+        bit6: (byte >> 6) & 1 == 1,
+        bit5: (byte >> 5) & 1 == 1,
+        bit4: (byte >> 4) & 1 == 1,
         low: byte & 15,
     }
 }
@@ -32,16 +31,16 @@ pub fn pack(f: Flags) -> u8
     requires { ⌜ f .low < 16 ⌝ }
     ensures { λ r. ⌜ r ≡ byteOf f ⌝ }
 {
-    let a = f.a as u8;
-    let b = f.b as u8;
-    let c = f.c as u8;
-    let d = f.d as u8;
-    shifted(a, b, c, d, f.low)
+    let bit7 = f.bit7 as u8;
+    let bit6 = f.bit6 as u8;
+    let bit5 = f.bit5 as u8;
+    let bit4 = f.bit4 as u8;
+    shifted(bit7, bit6, bit5, bit4, f.low)
 }
 
-fn shifted(a: u8, b: u8, c: u8, d: u8, low: u8) -> u8
-    requires { ⌜ (a < 2) × (b < 2) × (c < 2) × (d < 2) × (low < 16) ⌝ }
-    ensures { λ r. ⌜ r ≡ a * 128 + b * 64 + c * 32 + d * 16 + low ⌝ }
+fn shifted(bit7: u8, bit6: u8, bit5: u8, bit4: u8, low: u8) -> u8
+    requires { ⌜ (bit7 < 2) × (bit6 < 2) × (bit5 < 2) × (bit4 < 2) × (low < 16) ⌝ }
+    ensures { λ r. ⌜ r ≡ bit7 * 128 + bit6 * 64 + bit5 * 32 + bit4 * 16 + low ⌝ }
 {
-    (a << 7) | (b << 6) | (c << 5) | (d << 4) | low
+    (bit7 << 7) | (bit6 << 6) | (bit5 << 5) | (bit4 << 4) | low
 }

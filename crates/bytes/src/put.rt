@@ -48,14 +48,16 @@ pub fn put8_if(out: &mut [u8], at: usize, wanted: bool, v: u8) -> usize
 
 pub fn put16_if(out: &mut [u8], at: usize, wanted: bool, v: u16) -> usize
     requires { ⌜ at + cond wanted 2 0 ≤ length (now out) ⌝ }
-    ensures { λ r. ⌜ (r ≡ at + cond wanted 2 0) × Wrote (now (out .entry)) (now (out .exit)) at r (optional wanted (bigEndian 2 v)) ⌝ }
+    ensures { λ r. ⌜ (r ≡ at + cond wanted 2 0)
+        × Wrote (now (out .entry)) (now (out .exit)) at r (optional wanted (bigEndian 2 v)) ⌝ }
 {
     if wanted { put16(out, at, v) } else { at }
 }
 
 pub fn put32_if(out: &mut [u8], at: usize, wanted: bool, v: u32) -> usize
     requires { ⌜ at + cond wanted 4 0 ≤ length (now out) ⌝ }
-    ensures { λ r. ⌜ (r ≡ at + cond wanted 4 0) × Wrote (now (out .entry)) (now (out .exit)) at r (optional wanted (bigEndian 4 v)) ⌝ }
+    ensures { λ r. ⌜ (r ≡ at + cond wanted 4 0)
+        × Wrote (now (out .entry)) (now (out .exit)) at r (optional wanted (bigEndian 4 v)) ⌝ }
 {
     if wanted { put32(out, at, v) } else { at }
 }
@@ -65,13 +67,13 @@ fn put_words(out: &mut [u8], at: usize, list: [u32; 15], n: usize) -> usize
     requires { ⌜ (n ≤ 15) × (at + 4 * n ≤ length (now out)) ⌝ }
     ensures { λ r. ⌜ (r ≡ at + 4 * n) × Wrote (now (out .entry)) (now (out .exit)) at r (words (take n list)) ⌝ }
 {
-    let mut o = at;
+    let mut past = at;
     let mut i = 0;
     while i < n {
-        o = put32(out, o, list[i]);
+        past = put32(out, past, list[i]);
         i += 1;
     }
-    o
+    past
 }
 
 // The words of a CSRC list, as many as its count says.
@@ -79,9 +81,9 @@ pub fn put_list(out: &mut [u8], at: usize, list: Csrc) -> usize
     requires { ⌜ (list .count ≤ 15) × (at + 4 * list .count ≤ length (now out)) ⌝ }
     ensures { λ r. ⌜ (r ≡ at + 4 * list .count) × Wrote (now (out .entry)) (now (out .exit)) at r (listBytes list) ⌝ }
 {
-    let n = list.count as usize;
-    let l = list.words;
-    put_words(out, at, l, n)
+    let count = list.count as usize;
+    let words = list.words;
+    put_words(out, at, words, count)
 }
 
 // All of a slice: the copier of what is not changed.
@@ -98,29 +100,29 @@ pub fn put_all(out: &mut [u8], at: usize, s: &[u8]) -> usize
 }
 
 // The bytes of a difference's code; none where it has no code.
-pub fn put_code(out: &mut [u8], at: usize, c: Code) -> usize
-    requires { ⌜ at + length (bytesOf c) ≤ length (now out) ⌝ }
-    ensures { λ r. ⌜ Wrote (now (out .entry)) (now (out .exit)) at r (bytesOf c) ⌝ }
+pub fn put_code(out: &mut [u8], at: usize, code: Code) -> usize
+    requires { ⌜ at + length (bytesOf code) ≤ length (now out) ⌝ }
+    ensures { λ r. ⌜ Wrote (now (out .entry)) (now (out .exit)) at r (bytesOf code) ⌝ }
 {
-    match c {
-        Code::One(x) => { put8(out, at, x) }
-        Code::Two(x, y) => {
-            let a = put8(out, at, x);
-            put8(out, a, y)
+    match code {
+        Code::One(first) => { put8(out, at, first) }
+        Code::Two(first, second) => {
+            let at = put8(out, at, first);
+            put8(out, at, second)
         }
-        Code::Three(x, y, z) => {
-            let a = put8(out, at, x);
-            let b = put8(out, a, y);
-            put8(out, b, z)
+        Code::Three(first, second, third) => {
+            let at = put8(out, at, first);
+            let at = put8(out, at, second);
+            put8(out, at, third)
         }
         Code::NoCode => at,
     }
 }
 
-pub fn code_size(c: Code) -> usize
-    ensures { λ r. ⌜ (r ≡ length (bytesOf c)) × (r ≤ 3) ⌝ }
+pub fn code_size(code: Code) -> usize
+    ensures { λ r. ⌜ (r ≡ length (bytesOf code)) × (r ≤ 3) ⌝ }
 {
-    match c {
+    match code {
         Code::One(_) => 1,
         Code::Two(_, _) => 2,
         Code::Three(_, _, _) => 3,
@@ -128,9 +130,9 @@ pub fn code_size(c: Code) -> usize
     }
 }
 
-pub fn put_code_if(out: &mut [u8], at: usize, wanted: bool, c: Code) -> usize
-    requires { ⌜ at + length (optional wanted (bytesOf c)) ≤ length (now out) ⌝ }
-    ensures { λ r. ⌜ Wrote (now (out .entry)) (now (out .exit)) at r (optional wanted (bytesOf c)) ⌝ }
+pub fn put_code_if(out: &mut [u8], at: usize, wanted: bool, code: Code) -> usize
+    requires { ⌜ at + length (optional wanted (bytesOf code)) ≤ length (now out) ⌝ }
+    ensures { λ r. ⌜ Wrote (now (out .entry)) (now (out .exit)) at r (optional wanted (bytesOf code)) ⌝ }
 {
-    if wanted { put_code(out, at, c) } else { at }
+    if wanted { put_code(out, at, code) } else { at }
 }

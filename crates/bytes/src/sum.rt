@@ -6,8 +6,8 @@ use codes::cursor::be16;
 pub fn add(start: u16, word: u16) -> u16
     ensures { λ r. ⌜ r ≡ plus start word ⌝ }
 {
-    let t = (start as u32) + (word as u32);
-    (t % 65536 + t / 65536) as u16
+    let total = (start as u32) + (word as u32);
+    (total % 65536 + total / 65536) as u16
 }
 
 // The ones' complement sum of a part of a packet, added to a start value.

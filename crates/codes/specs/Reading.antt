@@ -71,7 +71,8 @@ readLong s at = fieldAt s at 4 (longAt s at)
 abbrev pub valueIn : List Row → (m size c past : ℕ) → Reading
 valueIn [] m size c past = refused 7
 valueIn (r ∷ rs) m size c past =
-    cond (eqb (r .size) size && among (r .code) (r .count) c) (accepted ((r .first + (c - r .code)) % m) past) (valueIn rs m size c past)
+    cond (eqb (r .size) size && among (r .code) (r .count) c) (accepted ((r .first + (c - r .code)) % m) past)
+    (valueIn rs m size c past)
 
 -- a code of so many bytes: 4 where it is cut short
 abbrev pub codeAt : (m : ℕ) → List ℕ → (at size c : ℕ) → Reading

@@ -2,18 +2,28 @@
 -- Used by the proofs of the cursor (by tests on the bytes) and by the round trips (by what is left from a place on).
 use Prim.Native.Nat.{ℕ, _+_, _-_, _*_, _/_, _%_, _≤_, _<_}
 use mathlib.Core.Path.{_≡_, refl, sym, ap, _∙_}
-use mathlib.Core.Bool.{Bool, true, false, cond, _&&_}
+use mathlib.Core.Bool.{Bool, true, false, cond, not, _&&_}
 use mathlib.Core.List.{List, [], _∷_, _++_}
 use native.Mathlib.Nat.{add-zero, zero-add}
 use native.Mathlib.Omega.{arith}
-use borrow.Author.Tests.{lt-ltb, le-ltb, lt-leb, le-leb, ltb-true, ltb-false}
+use borrow.Author.Tests.{lt-ltb, le-ltb, lt-leb, le-leb, ltb-true, ltb-false, leb-true, leb-false, not-true, not-false}
 use lib.Dec.{ltb}
 use lib.ListN.{length, getD, drop, length-drop, List·getD-eq-default}
 use lib.Seq.{getD-drop, drop-drop}
 use Rattle.codes.specs.Bytes.{bigEndian}
 use Rattle.codes.specs.Code.{rows, among}
 use Rattle.codes.specs.CodeLaws.{among-in, among-below, among-above}
-use Rattle.codes.specs.Reading.{Reading, accepted, refused, byteAt, wordAt, tripleAt, longAt, fieldAt, readByte, readWord, readLong, valueIn, codeAt, readBy}
+use Rattle.codes.specs.Reading.{Reading, accepted, refused, has, byteAt, wordAt, tripleAt, longAt}
+use Rattle.codes.specs.Reading.{fieldAt, readByte, readWord, readLong, valueIn, codeAt, readBy}
+
+---- has: what a test of it tells
+
+module _ (s : List ℕ) (at n : ℕ) (r : Bool) (e : r ≡ has s at n) where
+  pub has-there : not r ≡ false → at + n ≤ length s
+  has-there f = leb-true (at + n) (length s) (sym e ∙ not-false r f)
+
+  pub has-cut : not r ≡ true → length s < at + n
+  has-cut f = leb-false (at + n) (length s) (sym e ∙ not-true r f)
 
 ---- fieldAt
 
@@ -69,7 +79,8 @@ module _ (m : ℕ) (s : List ℕ) (at : ℕ) where
       → readBy m s at ≡ valueIn (rows m) m 2 c (at + 2)
   readBy-two c e h k n = by-two k n ∙ rw (le-leb (at + 2) (length s) h, ← e)
 
-  pub readBy-three : (c : ℕ) → c ≡ tripleAt s at → at + 3 ≤ length s → 0xC0 ≤ byteAt s at → readBy m s at ≡ valueIn (rows m) m 3 c (at + 3)
+  pub readBy-three : (c : ℕ) → c ≡ tripleAt s at → at + 3 ≤ length s
+      → 0xC0 ≤ byteAt s at → readBy m s at ≡ valueIn (rows m) m 3 c (at + 3)
   readBy-three c e h k = by-three k ∙ rw (le-leb (at + 3) (length s) h, ← e)
 
   -- the bytes end before the code does: with no byte at all, past its first, past its second

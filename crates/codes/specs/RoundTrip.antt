@@ -1,5 +1,5 @@
 -- Iarwennol. What was written is read back: numbers, and codes in all five rows, once over the width. Assumes nothing.
--- A reading is about what is left from a place on: `drop at s ≡ written ++ rest`. Used by the round trips of the link layouts (links).
+-- A reading is about what is left from a place on: `drop at s ≡ written ++ rest`. Used by the round trips of the layouts (links).
 use Prim.Native.Nat.{ℕ, _+_, _-_, _*_, _/_, _%_, _^_, _≤_, _<_}
 use mathlib.Core.Path.{_≡_, refl, sym, ap, _∙_}
 use mathlib.Core.Bool.{Bool, true, false, _||_}
@@ -15,7 +15,8 @@ use Rattle.codes.specs.Difference.{hasCode}
 use Rattle.codes.specs.Code.{rows, codeIn, codeOf}
 use Rattle.codes.specs.CodeLaws.{codeIn-low, codeIn-near, codeIn-middle, codeIn-far, codeIn-high}
 use Rattle.codes.specs.Reading.{accepted, byteAt, wordAt, valueIn, readByte, readWord, readLong, readBy, readDelta}
-use Rattle.codes.specs.ReadingLaws.{fieldAt-there, valueIn-near, valueIn-middle, valueIn-far, valueIn-high, readBy-one, readBy-two, readBy-three}
+use Rattle.codes.specs.ReadingLaws.{fieldAt-there, valueIn-near, valueIn-middle, valueIn-far}
+use Rattle.codes.specs.ReadingLaws.{valueIn-high, readBy-one, readBy-two, readBy-three}
 
 ---- what is left from a place on
 
@@ -72,7 +73,8 @@ module _ (m : ℕ) (s : List ℕ) (at c : ℕ) (rest : List ℕ) where
       let g = left-byte s at _ e 1 in
       readBy-two m s at c (omega arith) (omega arith) (omega arith) (omega arith)
 
-  readBy-three-written : 0xC00000 ≤ c → c < 0x1000000 → drop at s ≡ bigEndian 3 c ++ rest → readBy m s at ≡ valueIn (rows m) m 3 c (at + 3)
+  readBy-three-written : 0xC00000 ≤ c → c < 0x1000000 → drop at s ≡ bigEndian 3 c ++ rest
+      → readBy m s at ≡ valueIn (rows m) m 3 c (at + 3)
   readBy-three-written h k e =
       let n = left-length s at _ e (omega arith) in
       let f = left-first s at _ e in
@@ -130,16 +132,19 @@ module _ (m : ℕ) (s : List ℕ) (at d : ℕ) (rest : List ℕ) (wide : 32768 �
     where
       by : (a b : Bool) → ltb d 128 ≡ a → ltb d 16384 ≡ b → Back m s at d rest (codeIn (rows m) d)
       by true b e f = rw (codeIn-low m d wide (ltb-true _ _ e)) (row-low (ltb-true _ _ e))
-      by false true e f = rw (codeIn-middle m d wide (ltb-false _ _ e) (ltb-true _ _ f)) (row-middle (ltb-false _ _ e) (ltb-true _ _ f))
+      by false true e f =
+          rw (codeIn-middle m d wide (ltb-false _ _ e) (ltb-true _ _ f)) (row-middle (ltb-false _ _ e) (ltb-true _ _ f))
       by false false e f = rw (codeIn-high m d wide (ltb-false _ _ f) h k) (row-high (ltb-false _ _ f) k)
 
 -- the code of a difference, then anything, is read as the difference, and the reader stands past the code
 module _ (w : ℕ) (s : List ℕ) (at d : ℕ) (rest : List ℕ) (wide : 32768 ≤ 2 ^ w) (fits : d < 2 ^ w) where
-  pub readDelta-codeOf : hasCode w d ≡ true → drop at s ≡ codeOf w d ++ rest → readDelta w s at ≡ accepted d (at + length (codeOf w d))
+  pub readDelta-codeOf : hasCode w d ≡ true → drop at s ≡ codeOf w d ++ rest
+      → readDelta w s at ≡ accepted d (at + length (codeOf w d))
   unfolding hasCode codeOf
   readDelta-codeOf c = by (leb (2 ^ w - 16384) d) (ltb d 4194304) refl refl c
     where
-      by : (a b : Bool) → leb (2 ^ w - 16384) d ≡ a → ltb d 4194304 ≡ b → (b || a) ≡ true → Back (2 ^ w) s at d rest (codeIn (rows (2 ^ w)) d)
+      by : (a b : Bool) → leb (2 ^ w - 16384) d ≡ a → ltb d 4194304 ≡ b → (b || a) ≡ true
+          → Back (2 ^ w) s at d rest (codeIn (rows (2 ^ w)) d)
       by true b e f c = negative (2 ^ w) s at d rest wide fits (leb-true _ _ e)
       by false true e f c = positive (2 ^ w) s at d rest wide fits (leb-false _ _ e) (ltb-true _ _ f)
       by false false e f c = λ p. cc
@@ -155,5 +160,6 @@ module _ (s : List ℕ) (at d : ℕ) (rest : List ℕ) where
   pub readDelta-16 : d < 2 ^ 16 → drop at s ≡ codeOf 16 d ++ rest → readDelta 16 s at ≡ accepted d (at + length (codeOf 16 d))
   readDelta-16 h = readDelta-codeOf 16 s at d rest (omega arith) h (hasCode-16 d h)
 
-  pub readDelta-32 : d < 2 ^ 32 → hasCode 32 d ≡ true → drop at s ≡ codeOf 32 d ++ rest → readDelta 32 s at ≡ accepted d (at + length (codeOf 32 d))
+  pub readDelta-32 : d < 2 ^ 32 → hasCode 32 d ≡ true → drop at s ≡ codeOf 32 d ++ rest
+      → readDelta 32 s at ≡ accepted d (at + length (codeOf 32 d))
   readDelta-32 h = readDelta-codeOf 32 s at d rest (omega arith) h

@@ -1,7 +1,8 @@
 ghost use mathlib.Core.Path.{_≡_};
 ghost use Prim.Native.Nat.{ℕ, _<_, _≤_, _+_, _*_, _%_, _^_};
 ghost use Rattle.codes.specs.Code.{rows};
-ghost use Rattle.codes.specs.Reading.{readByte, readWord, readLong, readBy, readDelta, valueIn, ofByte, ofWord, ofLong, ofCode, ofDelta16, ofDelta32};
+ghost use Rattle.codes.specs.Reading.{has, readByte, readWord, readLong, readBy, readDelta, valueIn};
+ghost use Rattle.codes.specs.Reading.{ofByte, ofWord, ofLong, ofCode, ofDelta16, ofDelta32};
 use crate::difference::difference16;
 use crate::difference::difference32;
 
@@ -47,10 +48,10 @@ pub enum ReadCode {
     Unused,
 }
 
-fn wide(b: u8) -> u32
-    ensures { λ r. ⌜ (r ≡ b) × (r < 256) ⌝ }
+fn wide(byte: u8) -> u32
+    ensures { λ r. ⌜ (r ≡ byte) × (r < 256) ⌝ }
 {
-    b as u32
+    byte as u32
 }
 
 fn low16(v: u32) -> u16
@@ -60,10 +61,10 @@ fn low16(v: u32) -> u16
 }
 
 // Numbers of two and of four bytes, big-endian.
-pub fn be16(a: u8, b: u8) -> u16
-    ensures { λ r. ⌜ r ≡ a * 256 + b ⌝ }
+pub fn be16(high: u8, low: u8) -> u16
+    ensures { λ r. ⌜ r ≡ high * 256 + low ⌝ }
 {
-    (a as u16) * 256 + (b as u16)
+    (high as u16) * 256 + (low as u16)
 }
 
 pub fn be32(a: u8, b: u8, c: u8, d: u8) -> u32
@@ -72,32 +73,53 @@ pub fn be32(a: u8, b: u8, c: u8, d: u8) -> u32
     ((a as u32) * 256 + (b as u32)) * 65536 + ((c as u32) * 256 + (d as u32))
 }
 
-// The difference whose code is the number c of two bytes.
-fn value_of_two(c: u32, past: Cursor) -> ReadCode
-    requires { ⌜ (32768 ≤ c) × (c < 49152) ⌝ }
-    ensures { λ r. ⌜ ((m : ℕ) → 32768 ≤ m → ofCode m r ≡ valueIn (rows m) m 2 c (past .at)) ⌝ }
+// The difference whose code is the number code of two bytes.
+fn value_of_two(code: u32, past: Cursor) -> ReadCode
+    requires { ⌜ (32768 ≤ code) × (code < 49152) ⌝ }
+    ensures { λ r. ⌜ ((m : ℕ) → 32768 ≤ m → ofCode m r ≡ valueIn (rows m) m 2 code (past .at)) ⌝ }
 {
-    if c < 0x8080 {
-        return ReadCode::Down((0x8080 - c) as u16, past);
+    if code < 0x8080 {
+        return ReadCode::Down((0x8080 - code) as u16, past);
     }
-    ReadCode::Up(c - 0x8000, past)
+    ReadCode::Up(code - 0x8000, past)
 }
 
-// The difference whose code is the number c of three bytes.
-fn value_of_three(c: u32, past: Cursor) -> ReadCode
-    requires { ⌜ (12582912 ≤ c) × (c < 16777216) ⌝ }
-    ensures { λ r. ⌜ ((m : ℕ) → 32768 ≤ m → ofCode m r ≡ valueIn (rows m) m 3 c (past .at)) ⌝ }
+// The difference whose code is the number code of three bytes.
+fn value_of_three(code: u32, past: Cursor) -> ReadCode
+    requires { ⌜ (12582912 ≤ code) × (code < 16777216) ⌝ }
+    ensures { λ r. ⌜ ((m : ℕ) → 32768 ≤ m → ofCode m r ≡ valueIn (rows m) m 3 code (past .at)) ⌝ }
 {
-    if c < 0xC03F80 {
-        return ReadCode::Down((0xC04000 - c) as u16, past);
+    if code < 0xC03F80 {
+        return ReadCode::Down((0xC04000 - code) as u16, past);
     }
-    if c < 0xC04000 {
+    if code < 0xC04000 {
         return ReadCode::Unused;
     }
-    ReadCode::Up(c - 0xC00000, past)
+    ReadCode::Up(code - 0xC00000, past)
 }
 
 impl Cursor {
+    // The first byte of a packet.
+    pub fn start() -> Cursor
+        ensures { λ r. ⌜ r .at ≡ 0 ⌝ }
+    {
+        Cursor { at: 0 }
+    }
+
+    // Whether n bytes stand here.
+    pub fn has(self, s: &[u8], n: usize) -> bool
+        ensures { λ r. ⌜ r ≡ has (now (s .entry)) (self .at) n ⌝ }
+    {
+        let at = self.at;
+        if s.len() < n {
+            return false;
+        }
+        if s.len() - n < at {
+            return false;
+        }
+        true
+    }
+
     pub fn byte(self, s: &[u8]) -> ReadByte
         ensures { λ r. ⌜ ofByte r ≡ readByte (now (s .entry)) (self .at) ⌝ }
     {
@@ -114,10 +136,7 @@ impl Cursor {
         ensures { λ r. ⌜ ofWord r ≡ readWord (now (s .entry)) (self .at) ⌝ }
     {
         let at = self.at;
-        if s.len() < 2 {
-            return ReadWord::Cut;
-        }
-        if s.len() - 2 < at {
+        if !self.has(s, 2) {
             return ReadWord::Cut;
         }
         ReadWord::Word(be16(s[at], s[at + 1]), Cursor { at: at + 2 })
@@ -128,10 +147,7 @@ impl Cursor {
         ensures { λ r. ⌜ ofLong r ≡ readLong (now (s .entry)) (self .at) ⌝ }
     {
         let at = self.at;
-        if s.len() < 4 {
-            return ReadLong::Cut;
-        }
-        if s.len() - 4 < at {
+        if !self.has(s, 4) {
             return ReadLong::Cut;
         }
         ReadLong::Long(
@@ -148,23 +164,23 @@ impl Cursor {
         if s.len() <= at {
             return ReadCode::Cut;
         }
-        let a = wide(s[at]);
-        if a < 0x80 {
-            return ReadCode::Up(a, Cursor { at: at + 1 });
+        let first = wide(s[at]);
+        if first < 0x80 {
+            return ReadCode::Up(first, Cursor { at: at + 1 });
         }
         let left = s.len() - at;
         if left < 2 {
             return ReadCode::Cut;
         }
-        let b = wide(s[at + 1]);
-        if a < 0xC0 {
-            return value_of_two(a * 256 + b, Cursor { at: at + 2 });
+        let second = wide(s[at + 1]);
+        if first < 0xC0 {
+            return value_of_two(first * 256 + second, Cursor { at: at + 2 });
         }
         if left < 3 {
             return ReadCode::Cut;
         }
-        let c = wide(s[at + 2]);
-        value_of_three((a * 256 + b) * 256 + c, Cursor { at: at + 3 })
+        let third = wide(s[at + 2]);
+        value_of_three((first * 256 + second) * 256 + third, Cursor { at: at + 3 })
     }
 
     // A difference of a 16-bit field.
@@ -172,8 +188,8 @@ impl Cursor {
         ensures { λ r. ⌜ ofDelta16 r ≡ readDelta 16 (now (s .entry)) (self .at) ⌝ }
     {
         match self.code(s) {
-            ReadCode::Up(v, c) => ReadDelta16::Delta(low16(v), c),
-            ReadCode::Down(v, c) => ReadDelta16::Delta(difference16(v, 0), c),
+            ReadCode::Up(up, past) => ReadDelta16::Delta(low16(up), past),
+            ReadCode::Down(down, past) => ReadDelta16::Delta(difference16(down, 0), past),
             ReadCode::Cut => ReadDelta16::Cut,
             ReadCode::Unused => ReadDelta16::Unused,
         }
@@ -184,8 +200,8 @@ impl Cursor {
         ensures { λ r. ⌜ ofDelta32 r ≡ readDelta 32 (now (s .entry)) (self .at) ⌝ }
     {
         match self.code(s) {
-            ReadCode::Up(v, c) => ReadDelta32::Delta(v, c),
-            ReadCode::Down(v, c) => ReadDelta32::Delta(difference32(v as u32, 0), c),
+            ReadCode::Up(up, past) => ReadDelta32::Delta(up, past),
+            ReadCode::Down(down, past) => ReadDelta32::Delta(difference32(down as u32, 0), past),
             ReadCode::Cut => ReadDelta32::Cut,
             ReadCode::Unused => ReadDelta32::Unused,
         }

@@ -26,9 +26,12 @@ use Rattle.links.specs.Fh.{fhBytes, fhOf}
 use Rattle.links.specs.FhLaws.{FhFits, allBytes-fhBytes, fhOf-fhBytes}
 use Rattle.links.specs.declared.fh.FullHeader as fh
 use Rattle.links.specs.Cu.{cuBytes}
-use Rattle.links.specs.CuLaws.{contextOf-cuBytes, allBytes-cuBytes}
+use Rattle.links.specs.CuLaws.{first-cuBytes, allBytes-cuBytes}
 use Rattle.links.specs.Cr.{crBytes}
-use Rattle.links.specs.CrLaws.{contextOf-crBytes, allBytes-crBytes}
+use Rattle.links.specs.CrLaws.{first-crBytes, allBytes-crBytes, contextOf-crBytes}
+use Rattle.context.specs.AllLaws.{all-at}
+use Rattle.context.specs.Range as context
+use Rattle.context.specs.Relation.{Related, Arrives}
 use Rattle.context.proofs.AllLaws.{all-at}
 use Rattle.context.proofs.Relation as context
 use Rattle.context.proofs.Relation.{Related, Arrives}
@@ -146,9 +149,9 @@ module _ (t : compressor.Table) (p : List ℕ) (small : AllBytes p) (i : ℕ) (o
   named-by : (k : Kind) → a .kind ≡ k → named (kindNumber k) (linkBy k i (length p) h a ++ drop (headerSize h) p) ≡ i
   named-by FullHeader e = full-context
   named-by CompressedUdp e =
-      contextOf-cuBytes i (a .link .sequence) (not (a .context .blank)) (a .parts) (stepOn-udp n h s range (range .csrc .each) (held i) context-sound e) (drop (headerSize h) p)
+      first-cuBytes i (a .link .sequence) (not (a .context .blank)) (a .parts) (stepOn-udp n h s range (range .csrc .each) (held i) context-sound e) (drop (headerSize h) p)
   named-by CompressedRtp e =
-      contextOf-crBytes i (a .link .sequence) (not (a .context .blank)) (a .parts) (stepOn-rtp n h s range (range .csrc .each) (held i) context-sound e) (drop (headerSize h) p)
+      first-crBytes i (a .link .sequence) (not (a .context .blank)) (a .parts) (stepOn-rtp n h s range (range .csrc .each) (held i) context-sound e) (drop (headerSize h) p)
 
   pub on-named : named (kindNumber (a .kind)) (sentBytes i p h a) ≡ i
   unfolding linkBytes

@@ -21,8 +21,8 @@ use Rattle.links.specs.declared.head.Head.{Head}
 use Rattle.links.specs.declared.head.ReadParts.{ReadParts}
 use Rattle.links.specs.declared.whole.ReadWhole.{ReadWhole}
 use Rattle.links.specs.Head.{contextOf, headOf}
-use Rattle.links.specs.HeadLaws.{headOf-low}
-use Rattle.links.specs.Cu.{cuOf}
+use Rattle.links.specs.HeadLaws.{contextOf-first, headOf-low}
+use Rattle.links.specs.Cu.{cuFlagsOf, cuOf}
 use Rattle.links.specs.Cr.{crOf}
 use Rattle.links.specs.Whole.{wholeOf}
 use Rattle.links.specs.Fh.{fhJudged, fhOf}
@@ -188,7 +188,7 @@ module _ (old : OldForm) (t : Table) (sound : Sound t) where
     module _ (live : contextAt t i .status ≡ Live) where
       receiveUdp-way : Way t i (λ output. receiveUdp old t i h s output)
       receiveUdp-way =
-          way-if (h .flags .a)
+          way-if (cuFlagsOf (h .flags) .values)
           (λ output. receiveParts (cuOf s (h .place) (h .flags) (checksumRead (contextAt t i))) t i (h .flags .low) s output)
           (λ output. receiveOld old t i h s output)
           (λ e. receiveParts-way t i sound among live (cuOf s (h .place) (h .flags) (checksumRead (contextAt t i))) (h .flags .low) s small
@@ -225,12 +225,16 @@ module _ (old : OldForm) (t : Table) (sound : Sound t) where
         (refuses t 4 (omega arith) same (λ output. refl)))
         (refuses t 6 (omega arith) same (λ output. refl))
 
+    -- the context number is the first byte
+    first-way : (kind : ℕ) → Way t (byteAt s 0) (λ output. receiveCompressed old kind t s output)
+    first-way kind = rw (← contextOf-first s) (receiveCompressed-way kind)
+
     ---- By type
 
     module _ (a : AllBytes s) where
       fullOr-way : (b : Bool) (kind : ℕ) → Way t (cond b (byteAt s 3) (byteAt s 0)) (λ output. cond b (receiveFull t s output) (receiveCompressed old kind t s output))
       fullOr-way true kind = receiveFull-way t s a
-      fullOr-way false kind = receiveCompressed-way kind
+      fullOr-way false kind = first-way kind
 
       receiveKind-way : (kind : ℕ) → Way t (named kind s) (λ output. receiveKind old kind t s output)
       unfolding receiveKind

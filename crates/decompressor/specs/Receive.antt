@@ -14,7 +14,7 @@ use Rattle.links.specs.declared.head.Head.{Head}
 use Rattle.links.specs.declared.head.ReadParts.{ReadParts}
 use Rattle.links.specs.declared.whole.ReadWhole.{ReadWhole}
 use Rattle.links.specs.Head.{contextOf, headOf}
-use Rattle.links.specs.Cu.{cuOf}
+use Rattle.links.specs.Cu.{cuFlagsOf, cuOf}
 use Rattle.links.specs.Cr.{crOf}
 use Rattle.links.specs.Whole.{wholeOf}
 use Rattle.links.specs.declared.fh.FullHeader.{FullHeader}
@@ -101,7 +101,7 @@ module _ (old : OldForm) where
   -- a CU on a live context
   abbrev pub receiveUdp : Table → (i : ℕ) → Head → (s output : List ℕ) → Result
   receiveUdp t i h s output =
-      cond (h .flags .a)
+      cond (cuFlagsOf (h .flags) .values)
       (receiveParts (cuOf s (h .place) (h .flags) (checksumRead (contextAt t i))) t i (h .flags .low) s output)
       (receiveOld old t i h s output)
 

@@ -1,11 +1,12 @@
 -- Iarwennol. The steps of a reading from left to right (rules 3.3, 3.4): one definition, `next`, over what reads the field.
 -- Used by the readers of the link layouts (links).
-use Prim.Native.Nat.{ℕ, zero, suc, _/_}
+use Prim.Native.Nat.{ℕ, zero, suc}
 use mathlib.Core.Bool.{Bool, true, cond, _&&_}
 use mathlib.Core.List.{List}
 use lib.Dec.{eqb, ltb}
 use lib.ListN.{set}
 use Rattle.codes.specs.Reading.{Reading, refused, has, readByte, readWord, readLong, readDelta}
+use Rattle.headers.specs.Rtp.{rtpFirstOf}
 use Rattle.packet.specs.Csrc.{noList}
 use Rattle.packet.specs.declared.csrc.Csrc.{Csrc}
 use Rattle.fields.specs.declared.place.Place.{Place}
@@ -35,9 +36,9 @@ formed ok r = cond (eqb (r .number) 0) (cond (ok (r .value)) r (refused 5)) r
 unfoldable pub readPayload : List ℕ → ℕ → Reading
 readPayload s at = formed (λ v. ltb v 128) (readByte s at)
 
--- rules 3.4, 6.3: the first byte of an RTP header, whose twelve fixed bytes are one field; its top two bits are the version
+-- rules 3.4, 6.3: the first byte of an RTP header, whose twelve fixed bytes are one field
 unfoldable pub readVersion : List ℕ → ℕ → Reading
-readVersion s at = cond (has s at 12) (formed (λ v. eqb (v / 64) 2) (readByte s at)) (refused 4)
+readVersion s at = cond (has s at 12) (formed (λ v. eqb (rtpFirstOf v .version) 2) (readByte s at)) (refused 4)
 
 ---- the steps
 

@@ -15,10 +15,10 @@ pub fn next_list(s: &[u8], p: Place, n: u8) -> GotList
     let mut at = p;
     let mut i = 0u8;
     while i < n {
-        let g = next_long(s, at, true);
-        let f = g.field;
-        words[i as usize] = f.value;
-        at = g.place;
+        let word = next_long(s, at, true);
+        let field = word.field;
+        words[i as usize] = field.value;
+        at = word.place;
         i += 1;
     }
     GotList {

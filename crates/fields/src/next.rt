@@ -1,6 +1,5 @@
 ghost use mathlib.Core.Path.{_≡_};
 ghost use mathlib.Core.Bool.{true};
-ghost use Rattle.codes.specs.Reading.{has};
 ghost use Rattle.fields.specs.Next.{nextByte, nextWord, nextLong, nextDelta16, nextDelta32, nextPayload, nextVersion};
 use crate::place::Got8;
 use crate::place::Got16;
@@ -108,7 +107,7 @@ pub fn next_payload(s: &[u8], p: Place, wanted: bool) -> Got8
     if is_accepted(found) & wanted {
         match c.byte(s) {
             ReadByte::Byte(v, n) => {
-                if v < 128 {
+                if v >> 7 == 0 {
                     return there8(n, v);
                 }
                 none8(stop(c, Refusal::Forbidden))
@@ -120,19 +119,6 @@ pub fn next_payload(s: &[u8], p: Place, wanted: bool) -> Got8
     }
 }
 
-// Whether n bytes stand at a place.
-fn has_left(s: &[u8], at: usize, n: usize) -> bool
-    ensures { λ r. ⌜ r ≡ has (now (s .entry)) at n ⌝ }
-{
-    if s.len() < n {
-        return false;
-    }
-    if s.len() - n < at {
-        return false;
-    }
-    true
-}
-
 // The first byte of an RTP header: all twelve fixed bytes must be there, and the version must be 2.
 pub fn next_version(s: &[u8], p: Place) -> Got8
     ensures { λ r. ⌜ r ≡ nextVersion (now (s .entry)) p ⌝ }
@@ -142,12 +128,12 @@ pub fn next_version(s: &[u8], p: Place) -> Got8
     if !is_accepted(found) {
         return none8(p);
     }
-    if !has_left(s, c.at, 12) {
+    if !c.has(s, 12) {
         return none8(stop(c, Refusal::Cut));
     }
     match c.byte(s) {
         ReadByte::Byte(v, n) => {
-            if v / 64 == 2 {
+            if v >> 6 == 2 {
                 return there8(n, v);
             }
             none8(stop(c, Refusal::Forbidden))

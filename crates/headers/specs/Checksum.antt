@@ -10,7 +10,8 @@ use Rattle.headers.specs.Header.{headerBytes}
 -- of the header that stands in some bytes, with total for its IP length
 unfoldable pub ipChecksumOf : List ℕ → (total : ℕ) → ℕ
 ipChecksumOf p total =
-    complement (sumOf 0 (wordAt p 0 ∷ total ∷ wordAt p 4 ∷ wordAt p 6 ∷ wordAt p 8 ∷ wordAt p 12 ∷ wordAt p 14 ∷ wordAt p 16 ∷ wordAt p 18 ∷ []))
+    complement (sumOf 0 (wordAt p 0 ∷ total ∷ wordAt p 4 ∷ wordAt p 6 ∷ wordAt p 8 ∷ wordAt p 12 ∷ wordAt p 14 ∷ wordAt p 16
+    ∷ wordAt p 18 ∷ []))
 
 -- the two words of a number of 32 bits
 abbrev pub highWord : ℕ → ℕ

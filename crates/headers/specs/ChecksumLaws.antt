@@ -44,7 +44,8 @@ flags-whole a b h k e = omega arith
 -- summed over the parts beside the length and the checksum
 pub ipChecksumOf-parts : (p : List ℕ) (total : ℕ) → 40 ≤ length p
     → ipChecksumOf p total
-    ≡ complement (sumOf (sumOf (plus (sumOf 0 (wordsOf (take 2 (drop 0 p)))) total) (wordsOf (take 6 (drop 4 p)))) (wordsOf (take 8 (drop 12 p))))
+    ≡ complement (sumOf (sumOf (plus (sumOf 0 (wordsOf (take 2 (drop 0 p)))) total) (wordsOf (take 6 (drop 4 p))))
+    (wordsOf (take 8 (drop 12 p))))
 unfolding ipChecksumOf
 ipChecksumOf-parts p total h =
     rw (

@@ -9,8 +9,8 @@ use borrow.Author.Tests.{eqb-true, leb-true, eq-eqb}
 use lib.Dec.{eqb, leb}
 use lib.ListN.{length}
 use Rattle.codes.specs.Reading.{byteAt, wordAt}
+use Rattle.headers.specs.Header.{headerOf, sizeWith, headerSize, rtpAt, countAt}
 use Rattle.packet.proofs.Chain.{all-of-eight}
-use Rattle.headers.specs.Header.{headerOf, headerSize, rtpAt, countAt}
 use Rattle.headers.specs.Checksum.{ipChecksumOf}
 use Rattle.headers.specs.Compressible.{fixedForm, compressible}
 
@@ -78,7 +78,7 @@ module _ (p : List ℕ) where
         list = leb-true (12 + 4 * countAt p 28) (length p - 28) (t .7);
       }
 
-  pub headerSize-headerOf : headerSize (headerOf p) ≡ 40 + 4 * countAt p 28
+  pub headerSize-headerOf : headerSize (headerOf p) ≡ sizeWith (countAt p 28)
   unfolding headerOf rtpAt
   headerSize-headerOf = refl
 

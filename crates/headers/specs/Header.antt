@@ -1,7 +1,6 @@
 -- Iarwennol. The bytes of an IPv4/UDP/RTP header, and the header fields that stand in some bytes.
 -- Used by the link layout of a full header (links), which has other length fields, and by both ends.
 use Prim.Native.Nat.{ℕ, zero, suc, _+_, _-_, _*_, _/_, _%_}
-use mathlib.Core.Bool.{true, false}
 use mathlib.Core.List.{List, [], _∷_, _++_}
 use lib.ListN.{drop, replicate}
 use Rattle.codes.specs.Bytes.{bigEndian}
@@ -11,8 +10,8 @@ use Rattle.packet.specs.declared.header.Flow.{Flow}
 use Rattle.packet.specs.declared.header.Ip.{Ip}
 use Rattle.packet.specs.declared.header.Header.{Header}
 use Rattle.packet.specs.declared.header.RtpHeader.{RtpHeader}
-use Rattle.bytes.specs.Flags.{bitAt, digit, byteOf}
 use Rattle.bytes.specs.Put.{listBytes}
+use Rattle.headers.specs.Rtp.{rtpFirstOf, rtpFirstByte, rtpFirst, rtpSecondOf, rtpSecondByte, rtpSecond}
 
 ---- bytes to header
 
@@ -27,17 +26,17 @@ listAt s at n = record { count = n; words = longs n (drop at s) ++ replicate (15
 
 -- the CSRC count of an RTP header that begins at a place
 abbrev pub countAt : List ℕ → ℕ → ℕ
-countAt s at = byteAt s at % 16
+countAt s at = rtpFirstOf (byteAt s at) .count
 
 -- an RTP header that begins at a place; its version is judged elsewhere
 unfoldable pub rtpAt : List ℕ → ℕ → RtpHeader
 rtpAt s at = record {
   ssrc = longAt s (at + 8);
-  marker = bitAt 7 (byteAt s (at + 1));
+  marker = rtpSecondOf (byteAt s (at + 1)) .marker;
   rtp = record {
-    padding = bitAt 5 (byteAt s at);
-    extension = bitAt 4 (byteAt s at);
-    payload = byteAt s (at + 1) % 128;
+    padding = rtpFirstOf (byteAt s at) .padding;
+    extension = rtpFirstOf (byteAt s at) .extension;
+    payload = rtpSecondOf (byteAt s (at + 1)) .payload;
     sequence = wordAt s (at + 2);
     timestamp = longAt s (at + 4);
   };
@@ -72,28 +71,28 @@ ipFront length h =
 -- TTL, protocol, checksum and addresses
 unfoldable pub ipBack : (checksum : ℕ) → Header → List ℕ
 ipBack checksum h =
-    (h .ip .ttl ∷ []) ++ ((17 ∷ []) ++ (bigEndian 2 checksum ++ (bigEndian 4 (h .flow .source) ++ bigEndian 4 (h .flow .destination))))
+    (h .ip .ttl ∷ []) ++ ((17 ∷ [])
+    ++ (bigEndian 2 checksum ++ (bigEndian 4 (h .flow .source) ++ bigEndian 4 (h .flow .destination))))
 
 -- ports, length and checksum
 unfoldable pub udpBytes : (length : ℕ) → Header → List ℕ
-udpBytes length h = bigEndian 2 (h .flow .sport) ++ (bigEndian 2 (h .flow .dport) ++ (bigEndian 2 length ++ bigEndian 2 (h .checksum)))
-
--- version 2, padding, extension and CSRC count
-abbrev pub rtpFirst : Header → ℕ
-rtpFirst h = byteOf (record { a = true; b = false; c = h .rtp .padding; d = h .rtp .extension; low = h .csrc .count })
-
--- marker and payload type
-abbrev pub rtpSecond : Header → ℕ
-rtpSecond h = digit (h .marker) * 128 + h .rtp .payload
+udpBytes length h =
+    bigEndian 2 (h .flow .sport) ++ (bigEndian 2 (h .flow .dport) ++ (bigEndian 2 length ++ bigEndian 2 (h .checksum)))
 
 -- the twelve fixed bytes
 unfoldable pub rtpFixed : Header → List ℕ
 rtpFixed h =
-    (rtpFirst h ∷ []) ++ ((rtpSecond h ∷ []) ++ (bigEndian 2 (h .rtp .sequence) ++ (bigEndian 4 (h .rtp .timestamp) ++ bigEndian 4 (h .flow .ssrc))))
+    (rtpFirstByte (rtpFirst (h .rtp) (h .csrc)) ∷ [])
+    ++ ((rtpSecondByte (rtpSecond (h .marker) (h .rtp)) ∷ [])
+    ++ (bigEndian 2 (h .rtp .sequence) ++ (bigEndian 4 (h .rtp .timestamp) ++ bigEndian 4 (h .flow .ssrc))))
 
 -- all of them: with length fields and IP checksum as given, since a full header has others than its packet (rule 6.1)
 unfoldable pub headerBytes : (ipLength udpLength ipChecksum : ℕ) → Header → List ℕ
 headerBytes l u k h = ipFront l h ++ (ipBack k h ++ (udpBytes u h ++ (rtpFixed h ++ listBytes (h .csrc))))
 
+-- how many bytes a header has: 40, and the words of its CSRC list
+abbrev pub sizeWith : (count : ℕ) → ℕ
+sizeWith count = 40 + 4 * count
+
 abbrev pub headerSize : Header → ℕ
-headerSize h = 40 + 4 * h .csrc .count
+headerSize h = sizeWith (h .csrc .count)

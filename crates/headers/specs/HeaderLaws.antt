@@ -2,7 +2,7 @@
 -- Used by the round trips of the link layouts and by the theorem on lists of calls.
 use Prim.Native.Nat.{ℕ, zero, suc, _+_, _-_, _*_, _/_, _%_, _^_, _≤_, _<_}
 use mathlib.Core.Path.{_≡_, refl, sym, ap, _∙_}
-use mathlib.Core.Bool.{Bool, true, false}
+use mathlib.Core.Bool.{true}
 use mathlib.Core.List.{List, [], _∷_, _++_}
 use native.Mathlib.Omega.{arith}
 use lib.Dec.{eqb}
@@ -18,39 +18,24 @@ use Rattle.bytes.specs.Flags.{bitAt, digit, byteOf, flagsOf}
 use Rattle.bytes.specs.FlagsLaws.{digit-lt, flagsOf-byteOf}
 use Rattle.bytes.specs.Put.{listBytes}
 use Rattle.bytes.specs.PutLaws.{allBytes-words}
-use Rattle.headers.specs.Header.{countAt, rtpAt, flowOf, ipOf, headerOf, ipFront, ipBack, udpBytes, rtpFirst, rtpFixed, headerBytes, headerSize, longs}
+use Rattle.headers.specs.Rtp.{rtpFirstOf, rtpFirstByte, rtpFirst, rtpSecondOf, rtpSecondByte, rtpSecond}
+use Rattle.headers.specs.RtpLaws.{rtpFirstOf-byte, rtpFirstByte-two, rtpFirstByte-lt, rtpFirstByte-version}
+use Rattle.headers.specs.RtpLaws.{rtpSecondOf-byte, rtpSecondByte-of, rtpSecondByte-lt}
+use Rattle.headers.specs.Header.{countAt, rtpAt, flowOf, ipOf, headerOf, ipFront}
+use Rattle.headers.specs.Header.{ipBack, udpBytes, rtpFixed, headerBytes, headerSize, longs}
 use Rattle.headers.specs.Compressible.{fixedForm}
 use Rattle.headers.specs.ListLaws.{listAt-range, longs-listBytes, listBytes-listAt, length-listBytes}
 use Rattle.headers.specs.ChecksumLaws.{flags-word}
 use Rattle.headers.specs.CompressibleLaws.{FixedForm, fixedForm-true, fixedForm-holds}
 
----- the bytes of flags
-
--- a bit that was read, as a number
-digit-eqb : (x : ℕ) → x ≤ 1 → digit (eqb x 1) ≡ x
-digit-eqb zero h = refl
-digit-eqb (suc zero) h = refl
-digit-eqb (suc (suc x)) h = absurd (omega arith)
-
--- marker and payload type share a byte
-marker-back : (m : Bool) (v : ℕ) → v < 128 → bitAt 7 (digit m * 128 + v) ≡ m
-marker-back true v h = let e : (1 * 128 + v) / 128 % 2 ≡ 1 = omega arith in rw e
-marker-back false v h = let e : (0 * 128 + v) / 128 % 2 ≡ 0 = omega arith in rw e
-
-payload-back : (m : Bool) (v : ℕ) → v < 128 → (digit m * 128 + v) % 128 ≡ v
-payload-back m v h = omega arith
-
-second-back : (b : ℕ) → b < 256 → digit (bitAt 7 b) * 128 + b % 128 ≡ b
-second-back b h = rw (digit-eqb (b / 128 % 2) (omega arith)) (omega arith)
-
-first-back : (b : ℕ) → b < 256 → b / 64 ≡ 2 → byteOf (record { a = true; b = false; c = bitAt 5 b; d = bitAt 4 b; low = b % 16 }) ≡ b
-first-back b h v = rw (digit-eqb (b / 32 % 2) (omega arith), digit-eqb (b / 16 % 2) (omega arith)) (omega arith)
-
 ---- headerBytes, written and read
 
 module _ (l u k : ℕ) (h : Header) (rest : List ℕ) (r : HeaderInRange h) where
-  flags-first : flagsOf (rtpFirst h) ≡ record { a = true; b = false; c = h .rtp .padding; d = h .rtp .extension; low = h .csrc .count }
-  flags-first = flagsOf-byteOf (record { a = true; b = false; c = h .rtp .padding; d = h .rtp .extension; low = h .csrc .count }) (omega arith)
+  first-back : rtpFirstOf (rtpFirstByte (rtpFirst (h .rtp) (h .csrc))) ≡ rtpFirst (h .rtp) (h .csrc)
+  first-back = rtpFirstOf-byte (rtpFirst (h .rtp) (h .csrc)) (omega arith)
+
+  second-back : rtpSecondOf (rtpSecondByte (rtpSecond (h .marker) (h .rtp))) ≡ rtpSecond (h .marker) (h .rtp)
+  second-back = rtpSecondOf-byte (rtpSecond (h .marker) (h .rtp)) (r .rtp .payload)
 
   flow-back : flowOf (headerBytes l u k h ++ rest) ≡ h .flow
   unfolding flowOf headerBytes ipFront ipBack udpBytes rtpFixed
@@ -77,27 +62,30 @@ module _ (l u k : ℕ) (h : Header) (rest : List ℕ) (r : HeaderInRange h) wher
   rtp-back : rtpAt (headerBytes l u k h ++ rest) 28 .rtp ≡ h .rtp
   unfolding rtpAt headerBytes ipFront ipBack udpBytes rtpFixed
   rtp-back = λ i. record {
-    padding = flags-first i .c;
-    extension = flags-first i .d;
-    payload = payload-back (h .marker) (h .rtp .payload) (r .rtp .payload) i;
+    padding = first-back i .padding;
+    extension = first-back i .extension;
+    payload = second-back i .payload;
     sequence = wordAt-bigEndian (h .rtp .sequence) (r .rtp .sequence) [] i;
     timestamp = longAt-bigEndian (h .rtp .timestamp) (r .rtp .timestamp) [] i;
   }
 
   marker-read : rtpAt (headerBytes l u k h ++ rest) 28 .marker ≡ h .marker
   unfolding rtpAt headerBytes ipFront ipBack udpBytes rtpFixed
-  marker-read = marker-back (h .marker) (h .rtp .payload) (r .rtp .payload)
+  marker-read = λ i. second-back i .marker
 
   pub countAt-headerBytes : countAt (headerBytes l u k h ++ rest) 28 ≡ h .csrc .count
   unfolding headerBytes ipFront ipBack udpBytes rtpFixed
-  countAt-headerBytes = λ i. flags-first i .low
+  countAt-headerBytes = λ i. first-back i .count
 
   words-back : (n : ℕ) → n ≡ h .csrc .count → longs n (listBytes (h .csrc) ++ rest) ++ replicate (15 - n) 0 ≡ h .csrc .words
   words-back n e = rw e (longs-listBytes (h .csrc) rest (r .csrc))
 
   csrc-back : rtpAt (headerBytes l u k h ++ rest) 28 .csrc ≡ h .csrc
   unfolding rtpAt headerBytes ipFront ipBack udpBytes rtpFixed
-  csrc-back = λ i. record { count = countAt-headerBytes i; words = words-back (rtpFirst h % 16) countAt-headerBytes i }
+  csrc-back = λ i. record {
+    count = countAt-headerBytes i;
+    words = words-back (rtpFirstOf (rtpFirstByte (rtpFirst (h .rtp) (h .csrc))) .count) countAt-headerBytes i;
+  }
 
   checksum-back : wordAt (headerBytes l u k h ++ rest) 26 ≡ h .checksum
   unfolding headerBytes ipFront ipBack udpBytes
@@ -106,7 +94,14 @@ module _ (l u k : ℕ) (h : Header) (rest : List ℕ) (r : HeaderInRange h) wher
   -- a header that was written is read back, whatever its length fields and its IP checksum
   pub headerOf-headerBytes : headerOf (headerBytes l u k h ++ rest) ≡ h
   unfolding headerOf
-  headerOf-headerBytes = λ i. record { flow = flow-back i; ip = ip-back i; rtp = rtp-back i; csrc = csrc-back i; marker = marker-read i; checksum = checksum-back i }
+  headerOf-headerBytes = λ i. record {
+    flow = flow-back i;
+    ip = ip-back i;
+    rtp = rtp-back i;
+    csrc = csrc-back i;
+    marker = marker-read i;
+    checksum = checksum-back i;
+  }
 
   pub ipLength-headerBytes : l < 2 ^ 16 → wordAt (headerBytes l u k h ++ rest) 2 ≡ l
   unfolding headerBytes ipFront
@@ -120,16 +115,13 @@ module _ (l u k : ℕ) (h : Header) (rest : List ℕ) (r : HeaderInRange h) wher
   unfolding headerBytes ipFront ipBack
   ipChecksum-headerBytes b = wordAt-bigEndian k b []
 
-  rtpFirst-version : rtpFirst h / 64 ≡ 2
-  rtpFirst-version = omega (arith, digit-lt (h .rtp .padding), digit-lt (h .rtp .extension))
-
   form-headerBytes : FixedForm (headerBytes l u k h ++ rest)
   unfolding headerBytes ipFront ipBack udpBytes rtpFixed
   form-headerBytes = record {
     first = refl;
     whole = rw (wordAt-bigEndian (h .ip .flags * 0x4000) (omega arith) []) (omega arith);
     protocol = refl;
-    version = rtpFirst-version;
+    version = rtpFirstByte-version (rtpFirst (h .rtp) (h .csrc)) (omega arith);
   }
 
   pub fixedForm-headerBytes : fixedForm (headerBytes l u k h ++ rest) ≡ true
@@ -168,27 +160,40 @@ module _ (l u k : ℕ) (h : Header) (r : HeaderInRange h) where
   allBytes-rtpFixed : AllBytes (rtpFixed h)
   unfolding rtpFixed
   allBytes-rtpFixed =
-      more {b = rtpFirst h} (omega (arith, digit-lt (h .rtp .padding), digit-lt (h .rtp .extension)))
-      (more {b = digit (h .marker) * 128 + h .rtp .payload} (omega (arith, digit-lt (h .marker)))
-      (allBytes-append (allBytes-bigEndian 2 (h .rtp .sequence)) (allBytes-append (allBytes-bigEndian 4 (h .rtp .timestamp)) (allBytes-bigEndian 4 (h .flow .ssrc)))))
+      more (rtpFirstByte-lt (rtpFirst (h .rtp) (h .csrc)) (omega arith) (omega arith))
+      (more (rtpSecondByte-lt (rtpSecond (h .marker) (h .rtp)) (r .rtp .payload))
+      (allBytes-append (allBytes-bigEndian 2 (h .rtp .sequence))
+      (allBytes-append (allBytes-bigEndian 4 (h .rtp .timestamp)) (allBytes-bigEndian 4 (h .flow .ssrc)))))
 
   pub allBytes-headerBytes : AllBytes (headerBytes l u k h)
   unfolding headerBytes
   allBytes-headerBytes =
       allBytes-append allBytes-ipFront
       (allBytes-append allBytes-ipBack
-      (allBytes-append allBytes-udpBytes (allBytes-append allBytes-rtpFixed (allBytes-words (take (h .csrc .count) (h .csrc .words))))))
+      (allBytes-append allBytes-udpBytes
+      (allBytes-append allBytes-rtpFixed (allBytes-words (take (h .csrc .count) (h .csrc .words))))))
 
 ---- headerOf
 
 module _ {p : List ℕ} (a : AllBytes p) where
   flow-range : FlowInRange (flowOf p)
   unfolding flowOf
-  flow-range = record { source = longAt-lt a 12; destination = longAt-lt a 16; sport = wordAt-lt a 20; dport = wordAt-lt a 22; ssrc = longAt-lt a 36 }
+  flow-range = record {
+    source = longAt-lt a 12;
+    destination = longAt-lt a 16;
+    sport = wordAt-lt a 20;
+    dport = wordAt-lt a 22;
+    ssrc = longAt-lt a 36;
+  }
 
   ip-range : IpInRange (ipOf p)
   unfolding ipOf
-  ip-range = record { tos = allBytes-byteAt a 1; ttl = allBytes-byteAt a 8; flags = omega (arith, allBytes-byteAt a 6); id = wordAt-lt a 4 }
+  ip-range = record {
+    tos = allBytes-byteAt a 1;
+    ttl = allBytes-byteAt a 8;
+    flags = omega (arith, allBytes-byteAt a 6);
+    id = wordAt-lt a 4;
+  }
 
   pub rtpAt-range : (at : ℕ) → RtpInRange (rtpAt p at .rtp)
   unfolding rtpAt
@@ -201,7 +206,13 @@ module _ {p : List ℕ} (a : AllBytes p) where
   -- a header that was read from bytes is in range
   pub headerOf-range : HeaderInRange (headerOf p)
   unfolding headerOf
-  headerOf-range = record { flow = flow-range; ip = ip-range; rtp = rtpAt-range 28; csrc = rtpAt-listRange 28; checksum = wordAt-lt a 26 }
+  headerOf-range = record {
+    flow = flow-range;
+    ip = ip-range;
+    rtp = rtpAt-range 28;
+    csrc = rtpAt-listRange 28;
+    checksum = wordAt-lt a 26;
+  }
 
 pub range-narrow : {h : Header} → HeaderInRange h → Narrow h
 range-narrow r = record { flags = r .ip .flags; payload = r .rtp .payload; count = r .csrc .count }
@@ -222,7 +233,8 @@ module _ {p : List ℕ} (a : AllBytes p) (f : fixedForm p ≡ true) where
   unfolding ipBack headerOf ipOf flowOf
   ipBack-back = λ i.
       (byteAt p 8 ∷ [])
-      ++ ((sym (fixedForm-true p f .protocol) i ∷ []) ++ (bigEndian-wordAt a 10 i ++ (bigEndian-longAt a 12 i ++ bigEndian-longAt a 16 i)))
+      ++ ((sym (fixedForm-true p f .protocol) i ∷ [])
+      ++ (bigEndian-wordAt a 10 i ++ (bigEndian-longAt a 12 i ++ bigEndian-longAt a 16 i)))
 
   udpBytes-back : udpBytes (wordAt p 24) (headerOf p) ≡ places 8 20 p
   unfolding udpBytes headerOf flowOf
@@ -231,8 +243,9 @@ module _ {p : List ℕ} (a : AllBytes p) (f : fixedForm p ≡ true) where
   rtpFixed-back : rtpFixed (headerOf p) ≡ places 12 28 p
   unfolding rtpFixed headerOf flowOf rtpAt
   rtpFixed-back = λ i.
-      (first-back (byteAt p 28) (allBytes-byteAt a 28) (fixedForm-true p f .version) i ∷ [])
-      ++ ((second-back (byteAt p 29) (allBytes-byteAt a 29) i ∷ []) ++ (bigEndian-wordAt a 30 i ++ (bigEndian-longAt a 32 i ++ bigEndian-longAt a 36 i)))
+      (rtpFirstByte-two (byteAt p 28) (fixedForm-true p f .version) i ∷ [])
+      ++ ((rtpSecondByte-of (byteAt p 29) (allBytes-byteAt a 29) i ∷ [])
+      ++ (bigEndian-wordAt a 30 i ++ (bigEndian-longAt a 32 i ++ bigEndian-longAt a 36 i)))
 
   list-back : headerSize (headerOf p) ≤ length p → listBytes (headerOf p .csrc) ++ drop (headerSize (headerOf p)) p ≡ drop 40 p
   unfolding headerOf rtpAt
@@ -243,6 +256,7 @@ module _ {p : List ℕ} (a : AllBytes p) (f : fixedForm p ≡ true) where
       → headerBytes (wordAt p 2) (wordAt p 24) (wordAt p 10) (headerOf p) ++ drop (headerSize (headerOf p)) p ≡ p
   unfolding headerBytes
   headerBytes-headerOf h =
-      (λ i. (ipFront-back i ++ (ipBack-back i ++ (udpBytes-back i ++ (rtpFixed-back i ++ listBytes (headerOf p .csrc))))) ++ drop (headerSize (headerOf p)) p)
+      (λ i. (ipFront-back i ++ (ipBack-back i ++ (udpBytes-back i ++ (rtpFixed-back i ++ listBytes (headerOf p .csrc)))))
+      ++ drop (headerSize (headerOf p)) p)
       ∙ ap {B = List ℕ} (λ s. places 40 0 p ++ s) (list-back h)
       ∙ places-drop 40 p (omega arith)

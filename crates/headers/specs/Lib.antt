@@ -1,6 +1,8 @@
+pub mod Rtp
 pub mod Header
 pub mod Checksum
 pub mod Compressible
+pub mod RtpLaws
 pub mod ListLaws
 pub mod CompressibleLaws
 pub mod ChecksumLaws

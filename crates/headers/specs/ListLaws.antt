@@ -39,7 +39,8 @@ pub longs-words : (ws rest : List ℕ) → ((i : ℕ) → getD ws i 0 < 2 ^ 32) 
 longs-words [] rest h = refl
 longs-words (w ∷ ws) rest h = λ i. longAt-bigEndian w (h 0) (words ws ++ rest) i ∷ longs-words ws rest (λ j. h (suc j)) i
 
-words-step : {s : List ℕ} → AllBytes s → 4 ≤ length s → (x r : List ℕ) → x ++ r ≡ drop 4 s → (bigEndian 4 (longAt s 0) ++ x) ++ r ≡ s
+words-step : {s : List ℕ} → AllBytes s → 4 ≤ length s → (x r : List ℕ) → x ++ r ≡ drop 4 s
+    → (bigEndian 4 (longAt s 0) ++ x) ++ r ≡ s
 words-step {s} a h x r e =
     ap (λ (b : List ℕ). (b ++ x) ++ r) (bigEndian-longAt a 0)
     ∙ ap {B = List ℕ} (λ l. byteAt s 0 ∷ byteAt s 1 ∷ byteAt s 2 ∷ byteAt s 3 ∷ l) e
@@ -51,14 +52,16 @@ words-longs zero a h = refl
 words-longs (suc n) {s} a h =
     let e : 4 * suc n ≡ 4 + 4 * n = omega arith in
     let k : 4 * n ≤ length (drop 4 s) = simp length-drop (omega arith) in
-    words-step a (omega arith) (words (longs n (drop 4 s))) (drop (4 * suc n) s) (rw (e, ← drop-drop (4 * n) 4 s) (words-longs n (allBytes-drop 4 a) k))
+    words-step a (omega arith) (words (longs n (drop 4 s))) (drop (4 * suc n) s)
+    (rw (e, ← drop-drop (4 * n) 4 s) (words-longs n (allBytes-drop 4 a) k))
 
 ---- listAt
 
 length-listAt : (n : ℕ) (s : List ℕ) → n ≤ 15 → length (longs n s ++ replicate (15 - n) 0) ≡ 15
 length-listAt n s h = rw (length-append, length-longs n s, length-replicate) (omega arith)
 
-longs-more : (s : List ℕ) (at i : ℕ) (z : List ℕ) → longs (i + 1) (drop at s) ++ z ≡ longs i (drop at s) ++ longAt s (at + 4 * i) ∷ z
+longs-more : (s : List ℕ) (at i : ℕ) (z : List ℕ)
+    → longs (i + 1) (drop at s) ++ z ≡ longs i (drop at s) ++ longAt s (at + 4 * i) ∷ z
 longs-more s at i z =
     ap (λ n. longs n (drop at s) ++ z) (add-one i)
     ∙ ap (λ l. l ++ z) (longs-last i (drop at s))
@@ -67,7 +70,8 @@ longs-more s at i z =
 
 -- one word more, for the loop that reads a list
 pub set-listAt : (s : List ℕ) (at i : ℕ) → i < 15
-    → set (longs i (drop at s) ++ replicate (15 - i) 0) i (longAt s (at + 4 * i)) ≡ longs (i + 1) (drop at s) ++ replicate (15 - (i + 1)) 0
+    → set (longs i (drop at s) ++ replicate (15 - i) 0) i (longAt s (at + 4 * i)) ≡ longs (i + 1) (drop at s)
+    ++ replicate (15 - (i + 1)) 0
 set-listAt s at i h =
     let e : 15 - i ≡ suc (15 - (i + 1)) = omega arith in
     ap (λ n. set (longs i (drop at s) ++ replicate n 0) i (longAt s (at + 4 * i))) e
@@ -96,15 +100,18 @@ take-lt (suc n) (x ∷ l) h zero = h 0
 take-lt (suc n) (x ∷ l) h (suc i) = take-lt n l (λ j. h (suc j)) i
 
 -- a list that was written is read back
-pub longs-listBytes : (l : Csrc) (rest : List ℕ) → ListInRange l → longs (l .count) (listBytes l ++ rest) ++ replicate (15 - l .count) 0 ≡ l .words
+pub longs-listBytes : (l : Csrc) (rest : List ℕ) → ListInRange l
+    → longs (l .count) (listBytes l ++ rest) ++ replicate (15 - l .count) 0 ≡ l .words
 longs-listBytes l rest r =
     let m = l .count in
     let e : length (take m (l .words)) ≡ m = length-take-le m (l .words) (omega arith) in
-    let f : longs m (listBytes l ++ rest) ≡ take m (l .words) = rw e at (longs-words (take m (l .words)) rest (take-lt m (l .words) (r .each))) in
+    let f : longs m (listBytes l ++ rest) ≡ take m (l .words) = rw e
+    at (longs-words (take m (l .words)) rest (take-lt m (l .words) (r .each))) in
     rw (f, ← r .blank) (take-append-drop m (l .words))
 
 -- a list that was read is written back
-pub listBytes-listAt : {s : List ℕ} → AllBytes s → (at n : ℕ) → at + 4 * n ≤ length s → listBytes (listAt s at n) ++ drop (at + 4 * n) s ≡ drop at s
+pub listBytes-listAt : {s : List ℕ} → AllBytes s → (at n : ℕ) → at + 4 * n ≤ length s
+    → listBytes (listAt s at n) ++ drop (at + 4 * n) s ≡ drop at s
 listBytes-listAt {s} a at n h =
     rw (take-at (longs n (drop at s)) (replicate (15 - n) 0) n (length-longs n (drop at s)), ← drop-drop (4 * n) at s)
     (words-longs n (allBytes-drop at a) (simp length-drop (omega arith)))

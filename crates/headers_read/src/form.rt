@@ -24,26 +24,26 @@ pub fn ip_checksum_of(p: &[u8], total: u16) -> u16
     requires { ⌜ 40 ≤ length (now p) ⌝ }
     ensures { λ r. ⌜ r ≡ ipChecksumOf (now (p .entry)) total ⌝ }
 {
-    let a = add(sum(0, &p[0..2]), total);
-    let b = sum(a, &p[4..10]);
-    65535 - sum(b, &p[12..20])
+    let front = add(sum(0, &p[0..2]), total);
+    let middle = sum(front, &p[4..10]);
+    65535 - sum(middle, &p[12..20])
 }
 
 // Whether a packet is compressed at all.
 pub fn is_compressible(p: &[u8]) -> bool
     ensures { λ r. ⌜ r ≡ compressible (now (p .entry)) ⌝ }
 {
-    let n = p.len();
-    if n < 40 {
+    let size = p.len();
+    if size < 40 {
         return false;
     }
     let total = word_at(p, 2);
     let right = word_at(p, 10) == ip_checksum_of(p, total);
     let count = count_at(p, 28);
-    let fits = 12 + 4 * count <= n - 28;
+    let fits = 12 + 4 * count <= size - 28;
     let total = total as usize;
     fixed_form(p)
-        & (total == n)
+        & (total == size)
         & right
         & (word_at(p, 24) as usize + 20 == total)
         & (word_at(p, 22) & 1 == 0)

@@ -4,3 +4,4 @@
 pub mod form;
 pub mod place;
 pub mod read;
+pub mod rtp;

@@ -3,7 +3,7 @@ ghost use Prim.Native.Nat.{_≤_, _<_, _+_};
 ghost use lib.ListN.{length};
 ghost use Rattle.codes.specs.Reading.{wordAt, longAt};
 ghost use Rattle.headers.specs.Header.{countAt};
-use bytes::flags::split;
+use crate::rtp::split_first;
 use codes::cursor::be16;
 use codes::cursor::be32;
 
@@ -27,6 +27,6 @@ pub fn count_at(p: &[u8], at: usize) -> usize
     requires { ⌜ at + 1 ≤ length (now p) ⌝ }
     ensures { λ r. ⌜ (r ≡ countAt (now (p .entry)) at) × (r < 16) ⌝ }
 {
-    let f = split(p[at]);
-    f.low as usize
+    let first = split_first(p[at]);
+    first.count as usize
 }

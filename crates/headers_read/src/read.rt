@@ -1,10 +1,11 @@
 ghost use mathlib.Core.Path.{_≡_};
 ghost use Prim.Native.Nat.{_≤_, _<_, _+_, _*_};
 ghost use lib.ListN.{length};
-ghost use Rattle.headers.specs.Header.{listAt, countAt, rtpAt, flowOf, ipOf, headerOf, headerSize};
+ghost use Rattle.headers.specs.Header.{listAt, countAt, rtpAt, flowOf, ipOf, headerOf, sizeWith, headerSize};
 use crate::place::long_at;
 use crate::place::word_at;
-use bytes::flags::split;
+use crate::rtp::split_first;
+use crate::rtp::split_second;
 use packet::csrc::Csrc;
 use packet::header::Flow;
 use packet::header::Header;
@@ -35,16 +36,16 @@ pub fn read_rtp(s: &[u8], at: usize) -> RtpHeader
     requires { ⌜ at + (12 + 4 * countAt (now s) at) ≤ length (now s) ⌝ }
     ensures { λ r. ⌜ r ≡ rtpAt (now (s .entry)) at ⌝ }
 {
-    let f = split(s[at]);
-    let second = s[at + 1];
-    let list = read_list(s, at + 12, f.low);
+    let first = split_first(s[at]);
+    let second = split_second(s[at + 1]);
+    let list = read_list(s, at + 12, first.count);
     RtpHeader {
         ssrc: long_at(s, at + 8),
-        marker: (second >> 7) & 1 == 1,
+        marker: second.marker,
         rtp: Rtp {
-            padding: f.c,
-            extension: f.d,
-            payload: second & 127,
+            padding: first.padding,
+            extension: first.extension,
+            payload: second.payload,
             sequence: word_at(s, at + 2),
             timestamp: long_at(s, at + 4),
         },
@@ -79,28 +80,35 @@ fn read_ip(p: &[u8]) -> Ip
 
 // The header of a packet, or of a full header: no length and no IP checksum is read.
 pub fn read_header(p: &[u8]) -> Header
-    requires { ⌜ 40 + 4 * countAt (now p) 28 ≤ length (now p) ⌝ }
+    requires { ⌜ sizeWith (countAt (now p) 28) ≤ length (now p) ⌝ }
     ensures { λ r. ⌜ r ≡ headerOf (now (p .entry)) ⌝ }
 {
     let flow = read_flow(p);
     let ip = read_ip(p);
-    let r = read_rtp(p, 28);
-    let rtp = r.rtp;
-    let csrc = r.csrc;
+    let whole = read_rtp(p, 28);
+    let rtp = whole.rtp;
+    let csrc = whole.csrc;
     Header {
         flow: flow,
         ip: ip,
         rtp: rtp,
         csrc: csrc,
-        marker: r.marker,
+        marker: whole.marker,
         checksum: word_at(p, 26),
     }
 }
 
 // How many bytes a header has: where the rest of its packet begins.
+pub fn size_with(count: usize) -> usize
+    requires { ⌜ count < 256 ⌝ }
+    ensures { λ r. ⌜ r ≡ sizeWith count ⌝ }
+{
+    40 + 4 * count
+}
+
 pub fn header_size(h: Header) -> usize
     ensures { λ r. ⌜ r ≡ headerSize h ⌝ }
 {
     let list = h.csrc;
-    40 + 4 * (list.count as usize)
+    size_with(list.count as usize)
 }

@@ -20,8 +20,8 @@ pub fn fragment_word(flags: u8) -> u16
 fn add_long(start: u16, v: u32) -> u16
     ensures { λ r. ⌜ r ≡ sumOf start (highWord v ∷ lowWord v ∷ []) ⌝ }
 {
-    let a = add(start, (v / 65536) as u16);
-    add(a, (v % 65536) as u16)
+    let sum = add(start, (v / 65536) as u16);
+    add(sum, (v % 65536) as u16)
 }
 
 // The sum of the words before the checksum.
@@ -29,12 +29,12 @@ fn sum_front(ip: Ip, total: u16) -> u16
     requires { ⌜ ip .flags < 4 ⌝ }
     ensures { λ r. ⌜ r ≡ sumOf 0 ((0x4500 + ip .tos) ∷ total ∷ ip .id ∷ ip .flags * 0x4000 ∷ (ip .ttl * 256 + 17) ∷ []) ⌝ }
 {
-    let f = fragment_word(ip.flags);
-    let a = add(0, 0x4500 + (ip.tos as u16));
-    let b = add(a, total);
-    let c = add(b, ip.id);
-    let d = add(c, f);
-    add(d, (ip.ttl as u16) * 256 + 17)
+    let fragment = fragment_word(ip.flags);
+    let sum = add(0, 0x4500 + (ip.tos as u16));
+    let sum = add(sum, total);
+    let sum = add(sum, ip.id);
+    let sum = add(sum, fragment);
+    add(sum, (ip.ttl as u16) * 256 + 17)
 }
 
 // The IP checksum of a header in a packet of so many bytes.
@@ -44,7 +44,7 @@ pub fn ip_checksum(h: Header, total: u16) -> u16
 {
     let ip = h.ip;
     let flow = h.flow;
-    let a = sum_front(ip, total);
-    let b = add_long(a, flow.source);
-    65535 - add_long(b, flow.destination)
+    let sum = sum_front(ip, total);
+    let sum = add_long(sum, flow.source);
+    65535 - add_long(sum, flow.destination)
 }

@@ -4,4 +4,5 @@
 // since a full header has others than its packet.
 // Read `write::put_header` first.
 pub mod checksum;
+pub mod rtp;
 pub mod write;

@@ -1,19 +1,20 @@
 ghost use mathlib.Core.Path.{_≡_};
-ghost use Prim.Native.Nat.{_<_, _≤_, _+_, _-_, _*_};
+ghost use Prim.Native.Nat.{_≤_, _+_};
 ghost use lib.ListN.{length};
-ghost use Rattle.bytes.specs.Flags.{digit};
 ghost use Rattle.bytes.specs.Put.{Wrote};
-ghost use Rattle.headers.specs.Header.{ipFront, ipBack, udpBytes, rtpFirst, rtpFixed, headerBytes, headerSize};
+ghost use Rattle.headers.specs.Header.{ipFront, ipBack, udpBytes, rtpFixed, headerBytes, headerSize};
 ghost use Rattle.headers.specs.Checksum.{printed};
 ghost use Rattle.packet.specs.Ranges.{Narrow};
 use crate::checksum::fragment_word;
 use crate::checksum::ip_checksum;
-use bytes::flags::Flags;
-use bytes::flags::pack;
+use crate::rtp::pack_first;
+use crate::rtp::pack_second;
 use bytes::put::put_list;
 use bytes::put::put8;
 use bytes::put::put16;
 use bytes::put::put32;
+use headers::rtp::RtpFirst;
+use headers::rtp::RtpSecond;
 use packet::header::Header;
 
 fn put_ip_front(out: &mut [u8], at: usize, h: Header, size: u16) -> usize
@@ -21,12 +22,12 @@ fn put_ip_front(out: &mut [u8], at: usize, h: Header, size: u16) -> usize
     ensures { λ r. ⌜ (r ≡ at + 8) × Wrote (now (out .entry)) (now (out .exit)) at r (ipFront size h) ⌝ }
 {
     let ip = h.ip;
-    let f = fragment_word(ip.flags);
-    let a = put8(out, at, 0x45);
-    let b = put8(out, a, ip.tos);
-    let c = put16(out, b, size);
-    let d = put16(out, c, ip.id);
-    put16(out, d, f)
+    let fragment = fragment_word(ip.flags);
+    let at = put8(out, at, 0x45);
+    let at = put8(out, at, ip.tos);
+    let at = put16(out, at, size);
+    let at = put16(out, at, ip.id);
+    put16(out, at, fragment)
 }
 
 fn put_ip_back(out: &mut [u8], at: usize, h: Header, checksum: u16) -> usize
@@ -35,11 +36,11 @@ fn put_ip_back(out: &mut [u8], at: usize, h: Header, checksum: u16) -> usize
 {
     let ip = h.ip;
     let flow = h.flow;
-    let a = put8(out, at, ip.ttl);
-    let b = put8(out, a, 17);
-    let c = put16(out, b, checksum);
-    let d = put32(out, c, flow.source);
-    put32(out, d, flow.destination)
+    let at = put8(out, at, ip.ttl);
+    let at = put8(out, at, 17);
+    let at = put16(out, at, checksum);
+    let at = put32(out, at, flow.source);
+    put32(out, at, flow.destination)
 }
 
 fn put_udp(out: &mut [u8], at: usize, h: Header, size: u16) -> usize
@@ -47,49 +48,35 @@ fn put_udp(out: &mut [u8], at: usize, h: Header, size: u16) -> usize
     ensures { λ r. ⌜ (r ≡ at + 8) × Wrote (now (out .entry)) (now (out .exit)) at r (udpBytes size h) ⌝ }
 {
     let flow = h.flow;
-    let a = put16(out, at, flow.sport);
-    let b = put16(out, a, flow.dport);
-    let c = put16(out, b, size);
-    put16(out, c, h.checksum)
+    let at = put16(out, at, flow.sport);
+    let at = put16(out, at, flow.dport);
+    let at = put16(out, at, size);
+    put16(out, at, h.checksum)
 }
 
-// Version, padding, extension and CSRC count of an RTP header.
-fn first_byte(h: Header) -> u8
-    requires { ⌜ Narrow h ⌝ }
-    ensures { λ r. ⌜ r ≡ rtpFirst h ⌝ }
-{
-    let rtp = h.rtp;
-    let list = h.csrc;
-    pack(Flags {
-        a: true,
-        b: false,
-        c: rtp.padding,
-        d: rtp.extension,
-        low: list.count,
-    })
-}
-
-// Marker and payload type of an RTP header.
-fn second_byte(marker: bool, payload: u8) -> u8
-    requires { ⌜ payload < 128 ⌝ }
-    ensures { λ r. ⌜ r ≡ digit marker * 128 + payload ⌝ }
-{
-    if marker { 128 + payload } else { payload }
-}
-
+// The twelve fixed bytes of an RTP header.
 fn put_rtp(out: &mut [u8], at: usize, h: Header) -> usize
     requires { ⌜ Narrow h × (at + 12 ≤ length (now out)) ⌝ }
     ensures { λ r. ⌜ (r ≡ at + 12) × Wrote (now (out .entry)) (now (out .exit)) at r (rtpFixed h) ⌝ }
 {
     let rtp = h.rtp;
     let flow = h.flow;
-    let x = first_byte(h);
-    let y = second_byte(h.marker, rtp.payload);
-    let a = put8(out, at, x);
-    let b = put8(out, a, y);
-    let c = put16(out, b, rtp.sequence);
-    let d = put32(out, c, rtp.timestamp);
-    put32(out, d, flow.ssrc)
+    let list = h.csrc;
+    let first = pack_first(RtpFirst {
+        version: 2,
+        padding: rtp.padding,
+        extension: rtp.extension,
+        count: list.count,
+    });
+    let second = pack_second(RtpSecond {
+        marker: h.marker,
+        payload: rtp.payload,
+    });
+    let at = put8(out, at, first);
+    let at = put8(out, at, second);
+    let at = put16(out, at, rtp.sequence);
+    let at = put32(out, at, rtp.timestamp);
+    put32(out, at, flow.ssrc)
 }
 
 // A header with the length fields and the IP checksum as they are given.
@@ -102,14 +89,15 @@ pub fn put_header(
     checksum: u16,
 ) -> usize
     requires { ⌜ Narrow h × (at + headerSize h ≤ length (now out)) ⌝ }
-    ensures { λ r. ⌜ (r ≡ at + headerSize h) × Wrote (now (out .entry)) (now (out .exit)) at r (headerBytes «ip_length» «udp_length» checksum h) ⌝ }
+    ensures { λ r. ⌜ (r ≡ at + headerSize h)
+        × Wrote (now (out .entry)) (now (out .exit)) at r (headerBytes «ip_length» «udp_length» checksum h) ⌝ }
 {
     let list = h.csrc;
-    let a = put_ip_front(out, at, h, ip_length);
-    let b = put_ip_back(out, a, h, checksum);
-    let c = put_udp(out, b, h, udp_length);
-    let d = put_rtp(out, c, h);
-    put_list(out, d, list)
+    let at = put_ip_front(out, at, h, ip_length);
+    let at = put_ip_back(out, at, h, checksum);
+    let at = put_udp(out, at, h, udp_length);
+    let at = put_rtp(out, at, h);
+    put_list(out, at, list)
 }
 
 // The header of a packet of so many bytes: lengths and IP checksum are worked out.
@@ -117,6 +105,6 @@ pub fn put_printed(out: &mut [u8], at: usize, h: Header, total: u16) -> usize
     requires { ⌜ Narrow h × (20 ≤ total) × (at + headerSize h ≤ length (now out)) ⌝ }
     ensures { λ r. ⌜ (r ≡ at + headerSize h) × Wrote (now (out .entry)) (now (out .exit)) at r (printed h total) ⌝ }
 {
-    let k = ip_checksum(h, total);
-    put_header(out, at, h, total, total - 20, k)
+    let checksum = ip_checksum(h, total);
+    put_header(out, at, h, total, total - 20, checksum)
 }

@@ -2,6 +2,7 @@
 //
 // What it prints is compared with the rules' cases (11.1), which were written down by hand.
 ghost use Prim.Native.Nat.{_≤_};
+use headers_read::read::header_size;
 ghost use Rattle.packet.specs.Ranges.{Narrow};
 use links_write::cr::cr_size;
 use links_write::cr::put_cr;
@@ -19,7 +20,6 @@ use packet::sent::sent_if16;
 use packet::sent::sent_if32;
 use refresh::cs::put_count;
 use refresh::cs::put_record;
-use refresh::fh::fh_size;
 use refresh::fh::put_fh;
 
 fn text(s: &[u8]) {
@@ -109,8 +109,7 @@ fn parts(marker: bool, jump: bool) -> Parts
 
 fn show_fh(out: &mut [u8]) {
     let h = header();
-    let n = fh_size(h);
-    if out.len() < n {
+    if out.len() < header_size(h) {
         return;
     }
     put_fh(out, 0, 3, 5, 9, 40, h);
@@ -124,32 +123,32 @@ fn show_cs(out: &mut [u8]) {
     if out.len() < 5 {
         return;
     }
-    let a = put_count(out, 0, 1);
-    put_record(out, a, 3, 4, 5);
+    let at = put_count(out, 0, 1);
+    put_record(out, at, 3, 4, 5);
     text(b"report of that context, last sequence 4:");
     print_bytes(&out[0..5]);
 }
 
 fn show_cr(out: &mut [u8]) {
     let h = parts(true, false);
-    let n = cr_size(false, h);
-    if out.len() < n {
+    let size = cr_size(false, h);
+    if out.len() < size {
         return;
     }
     put_cr(out, 0, 0, 6, false, h);
     text(b"context 0, sequence 6, marker, nothing due:");
-    print_bytes(&out[0..n]);
+    print_bytes(&out[0..size]);
 }
 
 fn show_cu(out: &mut [u8]) {
     let h = parts(false, true);
-    let n = cu_size(false, h);
-    if out.len() < n {
+    let size = cu_size(false, h);
+    if out.len() < size {
         return;
     }
     put_cu(out, 0, 0, 3, false, h);
     text(b"context 0, sequence 3, timestamp 40, ID 1234:");
-    print_bytes(&out[0..n]);
+    print_bytes(&out[0..size]);
 }
 
 fn main() {

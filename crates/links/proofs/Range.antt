@@ -10,52 +10,56 @@ use Rattle.codes.specs.Difference.{hasCode}
 use Rattle.packet.specs.Ranges.{ListSound, HeaderSound, PartsSound}
 use Rattle.bytes.specs.declared.flags.Flags.{Flags}
 use Rattle.bytes.specs.Flags.{flagsOf}
+use Rattle.headers.specs.declared.rtp.RtpFirst.{RtpFirst}
+use Rattle.headers.specs.Rtp.{rtpFirstOf}
 use Rattle.fields.specs.declared.place.Place.{Place}
 use Rattle.fields.specs.Next.{nextByte, nextWord, nextLong, nextDelta16, nextVersion}
-use Rattle.fields.proofs.NextRange.{nextByte-within, nextWord-within, nextLong-within, nextDelta16-within, nextDelta32-within}
-use Rattle.fields.proofs.NextRange.{nextPayload-within, nextVersion-within, nextList-within, nextDelta32-coded, nextPayload-value, nextList-sound}
+use Rattle.links.specs.declared.cu.CuFlags.{CuFlags}
+use Rattle.links.specs.declared.cu.CuSecond.{CuSecond}
+use Rattle.links.specs.declared.cr.CrFlags.{CrFlags}
+use Rattle.fields.proofs.NextRange.{nextByte-within, nextWord-within, nextLong-within, nextDelta16-within, nextDelta32-within, nextPayload-within, nextVersion-within, nextList-within, nextDelta32-coded, nextPayload-value, nextList-sound}
 use Rattle.links.specs.declared.cr.Second.{Second}
 use Rattle.links.specs.declared.whole.Fixed.{Fixed}
-use Rattle.links.specs.Cu.{changesOf, valuesOf, cuRest, cuOf}
-use Rattle.links.specs.Cr.{allFour, secondWith, secondOf, deltasOf, crRest, crOf}
+use Rattle.links.specs.Cu.{cuFlagsOf, cuSecondOf, changesOf, valuesOf, cuRest, cuOf}
+use Rattle.links.specs.Cr.{crFlagsOf, allFour, secondWith, secondOf, deltasOf, crRest, crOf}
 use Rattle.links.specs.Whole.{fixedOf, rtpRest, rtpOf, wholeOf}
 
 module _ (s : List ℕ) where
   ---- CU with F
 
-  changesOf-coded : (p : Place) (f : Flags) (carried : Bool) → hasCode 32 (changesOf s p f carried .dts .value) ≡ true
+  changesOf-coded : (p : Place) (f : CuFlags) (carried : Bool) → hasCode 32 (changesOf s p f carried .dts .value) ≡ true
   unfolding changesOf
-  changesOf-coded p f carried = nextDelta32-coded s _ (f .c)
+  changesOf-coded p f carried = nextDelta32-coded s _ (f .dts)
 
-  changesOf-within : (p : Place) (f : Flags) (carried : Bool) → p .cursor .at ≤ length s → changesOf s p f carried .place .cursor .at ≤ length s
+  changesOf-within : (p : Place) (f : CuFlags) (carried : Bool) → p .cursor .at ≤ length s → changesOf s p f carried .place .cursor .at ≤ length s
   unfolding changesOf
   changesOf-within p f carried h =
       let a = nextWord-within s p h carried in
-      let b = nextDelta16-within s (nextWord s p carried .place) a (f .d) in
-      let c = nextDelta32-within s (nextDelta16 s (nextWord s p carried .place) (f .d) .place) b (f .c) in
-      nextWord-within s _ c (f .b)
+      let b = nextDelta16-within s (nextWord s p carried .place) a (f .did) in
+      let c = nextDelta32-within s (nextDelta16 s (nextWord s p carried .place) (f .did) .place) b (f .dts) in
+      nextWord-within s _ c (f .id)
 
-  valuesOf-payload : (p : Place) (g : Flags) → valuesOf s p g .payload .value < 128
+  valuesOf-payload : (p : Place) (g : CuSecond) → valuesOf s p g .payload .value < 128
   unfolding valuesOf
-  valuesOf-payload p g = nextPayload-value s _ (g .d)
+  valuesOf-payload p g = nextPayload-value s _ (g .payload)
 
-  valuesOf-list : (p : Place) (g : Flags) → g .low < 16 → ListSound (valuesOf s p g .csrc)
+  valuesOf-list : (p : Place) (g : CuSecond) → g .count < 16 → ListSound (valuesOf s p g .csrc)
   unfolding valuesOf
-  valuesOf-list p g h = nextList-sound s _ (g .low) (omega arith)
+  valuesOf-list p g h = nextList-sound s _ (g .count) (omega arith)
 
-  valuesOf-within : (p : Place) (g : Flags) → p .cursor .at ≤ length s → valuesOf s p g .place .cursor .at ≤ length s
+  valuesOf-within : (p : Place) (g : CuSecond) → p .cursor .at ≤ length s → valuesOf s p g .place .cursor .at ≤ length s
   unfolding valuesOf
   valuesOf-within p g h =
-      let a = nextWord-within s p h (g .b) in
-      let b = nextLong-within s (nextWord s p (g .b) .place) a (g .c) in
-      let c = nextPayload-within s (nextLong s (nextWord s p (g .b) .place) (g .c) .place) b (g .d) in
-      nextList-within s _ c (g .low)
+      let a = nextWord-within s p h (g .sequence) in
+      let b = nextLong-within s (nextWord s p (g .sequence) .place) a (g .timestamp) in
+      let c = nextPayload-within s (nextLong s (nextWord s p (g .sequence) .place) (g .timestamp) .place) b (g .payload) in
+      nextList-within s _ c (g .count)
 
-  cuRest-within : (p : Place) (f g : Flags) (carried : Bool) → p .cursor .at ≤ length s → cuRest s p f g carried .place .cursor .at ≤ length s
+  cuRest-within : (p : Place) (f : CuFlags) (g : CuSecond) (carried : Bool) → p .cursor .at ≤ length s → cuRest s p f g carried .place .cursor .at ≤ length s
   unfolding cuRest
   cuRest-within p f g carried h = valuesOf-within (changesOf s p f carried .place) g (changesOf-within p f carried h)
 
-  cuRest-sound : (p : Place) (f g : Flags) (carried : Bool) → g .low < 16 → PartsSound (cuRest s p f g carried .parts)
+  cuRest-sound : (p : Place) (f : CuFlags) (g : CuSecond) (carried : Bool) → g .count < 16 → PartsSound (cuRest s p f g carried .parts)
   unfolding cuRest
   cuRest-sound p f g carried h = record {
     payload = valuesOf-payload (changesOf s p f carried .place) g;
@@ -65,43 +69,43 @@ module _ (s : List ℕ) where
 
   pub cuOf-within : (p : Place) (f : Flags) (carried : Bool) → p .cursor .at ≤ length s → cuOf s p f carried .place .cursor .at ≤ length s
   unfolding cuOf
-  cuOf-within p f carried h = cuRest-within (nextByte s p true .place) f (flagsOf (nextByte s p true .field .value)) carried (nextByte-within s p h true)
+  cuOf-within p f carried h = cuRest-within (nextByte s p true .place) (cuFlagsOf f) (cuSecondOf (flagsOf (nextByte s p true .field .value))) carried (nextByte-within s p h true)
 
   pub cuOf-sound : (p : Place) (f : Flags) (carried : Bool) → PartsSound (cuOf s p f carried .parts)
   unfolding cuOf
-  cuOf-sound p f carried = cuRest-sound (nextByte s p true .place) f (flagsOf (nextByte s p true .field .value)) carried (omega arith)
+  cuOf-sound p f carried = cuRest-sound (nextByte s p true .place) (cuFlagsOf f) (cuSecondOf (flagsOf (nextByte s p true .field .value))) carried (omega arith)
 
   ---- CR
 
-  secondWith-count : (m : Bool) (f g : Flags) (p : Place) → g .low < 16 → secondWith m f g p .count < 16
+  secondWith-count : (m : Bool) (f : CrFlags) (g : Flags) (p : Place) → g .low < 16 → secondWith m f g p .count < 16
   unfolding secondWith
   secondWith-count true f g p h = h
   secondWith-count false f g p h = omega arith
 
-  secondOf-count : (p : Place) (f : Flags) → secondOf s p f .count < 16
+  secondOf-count : (p : Place) (f : CrFlags) → secondOf s p f .count < 16
   unfolding secondOf
   secondOf-count p f = secondWith-count (allFour f) f (flagsOf (nextByte s p (allFour f) .field .value)) (nextByte s p (allFour f) .place) (omega arith)
 
-  secondWith-within : (m : Bool) (f g : Flags) (p : Place) → p .cursor .at ≤ length s → secondWith m f g p .place .cursor .at ≤ length s
+  secondWith-within : (m : Bool) (f : CrFlags) (g : Flags) (p : Place) → p .cursor .at ≤ length s → secondWith m f g p .place .cursor .at ≤ length s
   unfolding secondWith
   secondWith-within true f g p h = h
   secondWith-within false f g p h = h
 
-  secondOf-within : (p : Place) (f : Flags) → p .cursor .at ≤ length s → secondOf s p f .place .cursor .at ≤ length s
+  secondOf-within : (p : Place) (f : CrFlags) → p .cursor .at ≤ length s → secondOf s p f .place .cursor .at ≤ length s
   unfolding secondOf
   secondOf-within p f h =
       secondWith-within (allFour f) f (flagsOf (nextByte s p (allFour f) .field .value)) (nextByte s p (allFour f) .place) (nextByte-within s p h (allFour f))
 
-  deltasOf-coded : (p : Place) (f : Flags) → hasCode 32 (deltasOf s p f .dts .value) ≡ true
+  deltasOf-coded : (p : Place) (f : CrFlags) → hasCode 32 (deltasOf s p f .dts .value) ≡ true
   unfolding deltasOf
-  deltasOf-coded p f = nextDelta32-coded s _ (f .c)
+  deltasOf-coded p f = nextDelta32-coded s _ (f .dts)
 
-  deltasOf-within : (p : Place) (f : Flags) → p .cursor .at ≤ length s → deltasOf s p f .place .cursor .at ≤ length s
+  deltasOf-within : (p : Place) (f : CrFlags) → p .cursor .at ≤ length s → deltasOf s p f .place .cursor .at ≤ length s
   unfolding deltasOf
   deltasOf-within p f h =
-      let a = nextDelta16-within s p h (f .d) in
-      let b = nextDelta16-within s (nextDelta16 s p (f .d) .place) a (f .b) in
-      nextDelta32-within s _ b (f .c)
+      let a = nextDelta16-within s p h (f .did) in
+      let b = nextDelta16-within s (nextDelta16 s p (f .did) .place) a (f .dsn) in
+      nextDelta32-within s _ b (f .dts)
 
   crRest-within : (checksum : ℕ) (n : Second) → n .place .cursor .at ≤ length s → crRest s checksum n .place .cursor .at ≤ length s
   unfolding crRest
@@ -118,11 +122,11 @@ module _ (s : List ℕ) where
   pub crOf-within : (p : Place) (f : Flags) (carried : Bool) → p .cursor .at ≤ length s → crOf s p f carried .place .cursor .at ≤ length s
   unfolding crOf
   crOf-within p f carried h =
-      crRest-within (nextWord s p carried .field .value) (secondOf s (nextWord s p carried .place) f) (secondOf-within (nextWord s p carried .place) f (nextWord-within s p h carried))
+      crRest-within (nextWord s p carried .field .value) (secondOf s (nextWord s p carried .place) (crFlagsOf f)) (secondOf-within (nextWord s p carried .place) (crFlagsOf f) (nextWord-within s p h carried))
 
   pub crOf-sound : (p : Place) (f : Flags) (carried : Bool) → PartsSound (crOf s p f carried .parts)
   unfolding crOf
-  crOf-sound p f carried = crRest-sound (nextWord s p carried .field .value) (secondOf s (nextWord s p carried .place) f) (secondOf-count (nextWord s p carried .place) f)
+  crOf-sound p f carried = crRest-sound (nextWord s p carried .field .value) (secondOf s (nextWord s p carried .place) (crFlagsOf f)) (secondOf-count (nextWord s p carried .place) (crFlagsOf f))
 
   ---- CU without F
 
@@ -135,34 +139,34 @@ module _ (s : List ℕ) where
       let d = nextLong-within s (nextWord s (nextByte s (nextVersion s p .place) true .place) true .place) c true in
       nextLong-within s _ d true
 
-  rtpRest-within : (x : Fixed) (f : Flags) → x .place .cursor .at ≤ length s → rtpRest s x f .place .cursor .at ≤ length s
+  rtpRest-within : (x : Fixed) (f : RtpFirst) → x .place .cursor .at ≤ length s → rtpRest s x f .place .cursor .at ≤ length s
   unfolding rtpRest
-  rtpRest-within x f h = nextList-within s (x .place) h (f .low)
+  rtpRest-within x f h = nextList-within s (x .place) h (f .count)
 
-  rtpRest-sound : (x : Fixed) (f : Flags) → f .low < 16 → HeaderSound (rtpRest s x f .header)
+  rtpRest-sound : (x : Fixed) (f : RtpFirst) → f .count < 16 → HeaderSound (rtpRest s x f .header)
   unfolding rtpRest
-  rtpRest-sound x f h = record { payload = omega arith; list = nextList-sound s (x .place) (f .low) (omega arith) }
+  rtpRest-sound x f h = record { payload = omega arith; list = nextList-sound s (x .place) (f .count) (omega arith) }
 
   rtpOf-within : (p : Place) → p .cursor .at ≤ length s → rtpOf s p .place .cursor .at ≤ length s
   unfolding rtpOf
-  rtpOf-within p h = rtpRest-within (fixedOf s p) (flagsOf (fixedOf s p .first)) (fixedOf-within p h)
+  rtpOf-within p h = rtpRest-within (fixedOf s p) (rtpFirstOf (fixedOf s p .first)) (fixedOf-within p h)
 
   rtpOf-sound : (p : Place) → HeaderSound (rtpOf s p .header)
   unfolding rtpOf
-  rtpOf-sound p = rtpRest-sound (fixedOf s p) (flagsOf (fixedOf s p .first)) (omega arith)
+  rtpOf-sound p = rtpRest-sound (fixedOf s p) (rtpFirstOf (fixedOf s p .first)) (omega arith)
 
   pub wholeOf-within : (p : Place) (f : Flags) (carried : Bool) → p .cursor .at ≤ length s → wholeOf s p f carried .place .cursor .at ≤ length s
   unfolding wholeOf
-  wholeOf-within p f carried h = rtpOf-within (changesOf s p f carried .place) (changesOf-within p f carried h)
+  wholeOf-within p f carried h = rtpOf-within (changesOf s p (cuFlagsOf f) carried .place) (changesOf-within p (cuFlagsOf f) carried h)
 
   pub wholeOf-sound : (p : Place) (f : Flags) (carried : Bool) → PartsSound (wholeOf s p f carried .parts)
   unfolding wholeOf
   wholeOf-sound p f carried = record {
     payload = omega arith;
-    coded = changesOf-coded p f carried;
+    coded = changesOf-coded p (cuFlagsOf f) carried;
     list = record { count = omega arith; size = refl; blank = refl };
   }
 
   pub wholeOf-header : (p : Place) (f : Flags) (carried : Bool) → HeaderSound (wholeOf s p f carried .header)
   unfolding wholeOf
-  wholeOf-header p f carried = rtpOf-sound (changesOf s p f carried .place)
+  wholeOf-header p f carried = rtpOf-sound (changesOf s p (cuFlagsOf f) carried .place)

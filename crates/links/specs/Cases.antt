@@ -1,5 +1,5 @@
 -- Iarwennol. The worked cases (rule 11.1): one table under one statement, the differences' own table among them. Assumes nothing.
--- Each layout is held against its bytes in both directions; the parts below are shown to fit, so that the round trips speak of them.
+-- Each layout is held against its bytes both ways; the parts below are shown to fit, so that the round trips speak of them.
 use Prim.Native.Nat.{ℕ, _+_, _^_, _<_}
 use mathlib.Core.Path.{_≡_, refl}
 use mathlib.Core.Bool.{true, false, false≢true}
@@ -123,7 +123,10 @@ given (cr c q h b) = readTo (crBytes c q false h) (crOf b (headOf b .place) (hea
 given (cu c q h b) = readTo (cuBytes c q false h) (cuOf b (headOf b .place) (headOf b .flags) false .place)
 
 pub cases-hold : map given cases ≡ map said cases
-unfolding cases codeOf readBy readByte readWord readLong difference sample fhBytes headerOf flowOf ipOf rtpAt headerBytes ipFront ipBack udpBytes rtpFixed ipChecksum ipChecksumOf plus fixedForm fieldsForm fhJudged fhOf csBytes recordWith recordJudged requestJudged crBytes cuBytes headOf next nextByte nextWord nextLong nextDelta16 nextDelta32 nextPayload readPayload changesOf valuesOf cuRest cuOf secondWith secondOf deltasOf crRest crOf
+unfolding cases codeOf readBy readByte readWord readLong difference sample fhBytes headerOf flowOf ipOf rtpAt headerBytes
+    ipFront ipBack udpBytes rtpFixed ipChecksum ipChecksumOf plus fixedForm fieldsForm fhJudged fhOf csBytes recordWith
+    recordJudged requestJudged crBytes cuBytes headOf next nextByte nextWord nextLong nextDelta16 nextDelta32 nextPayload
+    readPayload changesOf valuesOf cuRest cuOf secondWith secondOf deltasOf crRest crOf
 cases-hold = refl
 
 ---- the round trips speak of the cases

@@ -15,60 +15,79 @@ use Rattle.fields.specs.declared.place.Got32.{Got32}
 use Rattle.fields.specs.declared.place.GotList.{GotList}
 use Rattle.fields.specs.Next.{nextByte, nextWord, nextDelta16, nextDelta32, nextList}
 use Rattle.links.specs.declared.head.ReadParts.{ReadParts}
+use Rattle.links.specs.declared.cr.CrFlags.{CrFlags}
 use Rattle.links.specs.declared.cr.Second.{Second}
 use Rattle.links.specs.declared.cr.Deltas.{Deltas}
 use Rattle.links.specs.Sent.{delta16, delta32, none8, none16, none32}
+use Rattle.links.specs.Head.{headBytes}
+
+---- the flag bytes, both ways
+
+-- M, S, T, I; the number is the link sequence in the first byte, the CSRC count in the second
+abbrev pub crFlagsOf : Flags → CrFlags
+crFlagsOf f = record { marker = f .bit7; dsn = f .bit6; dts = f .bit5; did = f .bit4 }
+
+abbrev pub crFlagsBits : (number : ℕ) → CrFlags → Flags
+crFlagsBits number f = record { bit7 = f .marker; bit6 = f .dsn; bit5 = f .dts; bit4 = f .did; low = number }
 
 ---- bytes
 
--- M, S, T, I, and a number: the link sequence or the CSRC count
-abbrev pub crOwn : Parts → ℕ → Flags
-crOwn h low = record { a = h .marker; b = h .dsn .sent; c = h .dts .sent; d = h .did .sent; low = low }
+-- what the flags say of some parts
+abbrev pub crSent : Parts → CrFlags
+crSent h = record { marker = h .marker; dsn = h .dsn .sent; dts = h .dts .sent; did = h .did .sent }
 
 -- 1111 where the second byte stands, else the flags themselves
-abbrev pub crFirst : Bool → Flags → Flags
-crFirst listed own = record { a = listed || own .a; b = listed || own .b; c = listed || own .c; d = listed || own .d; low = own .low }
+abbrev pub crFirst : (listed : Bool) → CrFlags → CrFlags
+crFirst listed own =
+    record { marker = listed || own .marker; dsn = listed || own .dsn; dts = listed || own .dts; did = listed || own .did }
 
-abbrev pub crFlags : ℕ → Parts → Flags
-crFlags link h = crFirst (h .listed) (crOwn h link)
+abbrev pub crFlags : (link : ℕ) → Parts → Flags
+crFlags link h = crFlagsBits link (crFirst (h .listed) (crSent h))
 
-abbrev pub crHeadBytes : (context link : ℕ) → Bool → Parts → List ℕ
-crHeadBytes context link carried h =
-    context ∷ byteOf (crFlags link h) ∷ (optional carried (bigEndian 2 (h .checksum)) ++ optional (h .listed) (byteOf (crOwn h (h .csrc .count)) ∷ []))
+abbrev pub crSecondByte : Parts → ℕ
+crSecondByte h = byteOf (crFlagsBits (h .csrc .count) (crSent h))
 
-abbrev pub deltaBytes : Parts → List ℕ
-deltaBytes h = delta16 (h .did) ++ (delta16 (h .dsn) ++ (delta32 (h .dts) ++ listBytes (h .csrc)))
+abbrev pub secondBytes : (listed : Bool) → Parts → List ℕ
+secondBytes listed h = optional listed (crSecondByte h ∷ [])
 
-unfoldable pub crBytes : (context link : ℕ) → Bool → Parts → List ℕ
-crBytes context link carried h = crHeadBytes context link carried h ++ deltaBytes h
+-- the differences of ID, sequence and timestamp
+abbrev pub deltasBytes : Parts → List ℕ
+deltasBytes h = delta16 (h .did) ++ (delta16 (h .dsn) ++ delta32 (h .dts))
+
+unfoldable pub crBytes : (context link : ℕ) → (carried : Bool) → Parts → List ℕ
+crBytes context link carried h =
+    headBytes context (crFlags link h)
+    ++ (optional carried (bigEndian 2 (h .checksum)) ++ (secondBytes (h .listed) h ++ (deltasBytes h ++ listBytes (h .csrc))))
 
 ---- reader
 
 -- M, S, T, I are 1111
-abbrev pub allFour : Flags → Bool
-allFour f = f .a && f .b && f .c && f .d
+abbrev pub allFour : CrFlags → Bool
+allFour f = f .marker && f .dsn && f .dts && f .did
 
 -- the flags in effect and the count: those of the second byte g where it stands, else the first, with no list
-unfoldable pub secondWith : Bool → (f g : Flags) → Place → Second
-secondWith true f g p = record { place = p; listed = true; flags = g; count = g .low }
+unfoldable pub secondWith : Bool → CrFlags → (g : Flags) → Place → Second
+secondWith true f g p = record { place = p; listed = true; flags = crFlagsOf g; count = g .low }
 secondWith false f g p = record { place = p; listed = false; flags = f; count = 0 }
 
-unfoldable pub secondOf : List ℕ → Place → Flags → Second
-secondOf s p f = let x : Got8 = nextByte s p (allFour f) in secondWith (allFour f) f (flagsOf (x .field .value)) (x .place)
+unfoldable pub secondOf : List ℕ → Place → CrFlags → Second
+secondOf s p f =
+    let second : Got8 = nextByte s p (allFour f) in
+    secondWith (allFour f) f (flagsOf (second .field .value)) (second .place)
 
 -- the differences of the ID if I, of the sequence if S, of the timestamp if T
-unfoldable pub deltasOf : List ℕ → Place → Flags → Deltas
+unfoldable pub deltasOf : List ℕ → Place → CrFlags → Deltas
 deltasOf s p f =
-    let a : Got16 = nextDelta16 s p (f .d) in
-    let b : Got16 = nextDelta16 s (a .place) (f .b) in
-    let c : Got32 = nextDelta32 s (b .place) (f .c) in
-    record { place = c .place; did = a .field; dsn = b .field; dts = c .field }
+    let did : Got16 = nextDelta16 s p (f .did) in
+    let dsn : Got16 = nextDelta16 s (did .place) (f .dsn) in
+    let dts : Got32 = nextDelta32 s (dsn .place) (f .dts) in
+    record { place = dts .place; did = did .field; dsn = dsn .field; dts = dts .field }
 
-abbrev pub crParts : ℕ → Second → Deltas → GotList → ReadParts
+abbrev pub crParts : (checksum : ℕ) → Second → Deltas → GotList → ReadParts
 crParts checksum n d l = record {
   place = l .place;
   parts = record {
-    marker = n .flags .a;
+    marker = n .flags .marker;
     checksum = checksum;
     id = none16;
     sequence = none16;
@@ -83,11 +102,14 @@ crParts checksum n d l = record {
 }
 
 -- past the checksum and the second byte
-unfoldable pub crRest : List ℕ → ℕ → Second → ReadParts
-crRest s checksum n =
-    let d : Deltas = deltasOf s (n .place) (n .flags) in
-    let l : GotList = nextList s (d .place) (n .count) in
-    crParts checksum n d l
+unfoldable pub crRest : List ℕ → (checksum : ℕ) → Second → ReadParts
+crRest s checksum second =
+    let deltas : Deltas = deltasOf s (second .place) (second .flags) in
+    let csrc : GotList = nextList s (deltas .place) (second .count) in
+    crParts checksum second deltas csrc
 
-unfoldable pub crOf : List ℕ → Place → Flags → Bool → ReadParts
-crOf s p f carried = let a : Got16 = nextWord s p carried in crRest s (a .field .value) (secondOf s (a .place) f)
+-- past the flag byte f
+unfoldable pub crOf : List ℕ → Place → Flags → (carried : Bool) → ReadParts
+crOf s p f carried =
+    let checksum : Got16 = nextWord s p carried in
+    crRest s (checksum .field .value) (secondOf s (checksum .place) (crFlagsOf f))

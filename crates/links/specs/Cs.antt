@@ -1,6 +1,6 @@
 -- Iarwennol. CONTEXT_STATE (rule 6.6): its bytes, and how a request of any bytes is judged (rule 9.2) and read.
 -- Used by the decompressor's report and by the compressor's request.
-use Prim.Native.Nat.{ℕ, zero, suc, _+_, _*_, _<_}
+use Prim.Native.Nat.{ℕ, zero, suc, _+_, _*_, _/_, _<_}
 use mathlib.Core.Path.{_≡_}
 use mathlib.Core.Bool.{Bool, true, false, cond, not, _||_}
 use mathlib.Core.List.{List, [], _∷_, _++_}
@@ -9,10 +9,19 @@ use lib.ListN.{length}
 use Rattle.codes.specs.Reading.{byteAt}
 use Rattle.bytes.specs.declared.flags.Flags.{Flags}
 use Rattle.bytes.specs.Flags.{flagsOf, byteOf}
+use Rattle.links.specs.declared.cs.RecordFlags.{RecordFlags}
 use Rattle.packet.specs.declared.refusal.Verdict.{Verdict}
 use Rattle.packet.specs.declared.refusal.Verdict.the-variants.{Accepted, Refused}
 use Rattle.packet.specs.declared.refusal.Refusal.the-variants.{Cut, Forbidden, NoSuchContext}
 use Rattle.packet.specs.Refusal.{firstRefusal}
+
+---- the flag byte of a record, both ways
+
+abbrev pub recordFlagsOf : Flags → RecordFlags
+recordFlagsOf f = record { asks = f .bit7; zero1 = f .bit6; zero2 = f .bit5; zero3 = f .bit4; link = f .low }
+
+abbrev pub recordFlagsBits : RecordFlags → Flags
+recordFlagsBits f = record { bit7 = f .asks; bit6 = f .zero1; bit5 = f .zero2; bit4 = f .zero3; low = f .link }
 
 ---- bytes
 
@@ -23,11 +32,11 @@ pub record State : Type 0 where
   pub generation : ℕ
 
 -- 1, 0, 0, 0, last link sequence
-abbrev pub recordFlags : ℕ → Flags
-recordFlags link = record { a = true; b = false; c = false; d = false; low = link }
+abbrev pub recordFlags : (link : ℕ) → RecordFlags
+recordFlags link = record { asks = true; zero1 = false; zero2 = false; zero3 = false; link = link }
 
 abbrev pub recordBytes : (context link generation : ℕ) → List ℕ
-recordBytes context link generation = context ∷ byteOf (recordFlags link) ∷ generation ∷ []
+recordBytes context link generation = context ∷ byteOf (recordFlagsBits (recordFlags link)) ∷ generation ∷ []
 
 abbrev pub recordsBytes : List State → List ℕ
 recordsBytes [] = []
@@ -42,28 +51,31 @@ csBytes rs = 1 ∷ length rs ∷ recordsBytes rs
 abbrev pub recordCount : List ℕ → ℕ
 recordCount s = byteAt s 1
 
--- where record i stands, its context number, and whether it asks for full headers
+-- where record i stands, its context number, its flags, and whether it asks for full headers
 abbrev pub recordAt : ℕ → ℕ
 recordAt i = 2 + 3 * i
 
 abbrev pub recordContext : List ℕ → ℕ → ℕ
 recordContext s i = byteAt s (recordAt i)
 
+abbrev pub recordFlagsAt : List ℕ → ℕ → RecordFlags
+recordFlagsAt s i = recordFlagsOf (flagsOf (byteAt s (recordAt i + 1)))
+
 abbrev pub recordAsks : List ℕ → ℕ → Bool
-recordAsks s i = flagsOf (byteAt s (recordAt i + 1)) .a
+recordAsks s i = recordFlagsAt s i .asks
 
 ---- how it is judged (rule 9.2)
 
--- a bit is set that rule 6.6 has as 0
-abbrev pub bitsForbidden : Flags → (generation : ℕ) → Bool
-bitsForbidden f generation = f .b || f .c || f .d || leb 64 generation
+-- a bit is set that rule 6.6 has as 0: one of three, or of the two above the generation
+abbrev pub bitsForbidden : RecordFlags → (generation : ℕ) → Bool
+bitsForbidden f generation = f .zero1 || f .zero2 || f .zero3 || not (eqb (generation / 64) 0)
 
 -- k: how many contexts there are
-unfoldable pub recordWith : (k context : ℕ) → Flags → (generation : ℕ) → Verdict
+unfoldable pub recordWith : (k context : ℕ) → RecordFlags → (generation : ℕ) → Verdict
 recordWith k context f generation = cond (leb k context) (Refused NoSuchContext) (cond (bitsForbidden f generation) (Refused Forbidden) Accepted)
 
 unfoldable pub recordJudged : (k : ℕ) → List ℕ → ℕ → Verdict
-recordJudged k s i = recordWith k (recordContext s i) (flagsOf (byteAt s (recordAt i + 1))) (byteAt s (recordAt i + 2))
+recordJudged k s i = recordWith k (recordContext s i) (recordFlagsAt s i) (byteAt s (recordAt i + 2))
 
 -- n records from record i on: the first that is refused
 abbrev pub recordsJudged : (k : ℕ) → List ℕ → (i n : ℕ) → Verdict

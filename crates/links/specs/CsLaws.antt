@@ -1,6 +1,6 @@
 -- Iarwennol. Laws of CONTEXT_STATE: what a good request is, and that a report is one. Assume nothing.
 -- Used by the proofs of the judging functions, by the compressor's request and by the decompressor's report.
-use Prim.Native.Nat.{ℕ, zero, suc, _+_, _-_, _*_, _≤_, _<_}
+use Prim.Native.Nat.{ℕ, zero, suc, _+_, _-_, _*_, _/_, _≤_, _<_}
 use mathlib.Core.Path.{_≡_, refl, ap, _∙_}
 use mathlib.Core.Bool.{Bool, true, false, cond, not, _||_}
 use mathlib.Core.List.{List, [], _∷_, _++_}
@@ -14,25 +14,32 @@ use lib.Seq.{drop-drop, drop-cons, drop-nil}
 use Rattle.codes.specs.Bytes.{AllBytes, none, more}
 use Rattle.codes.specs.Reading.{byteAt}
 use Rattle.codes.specs.RoundTrip.{left-first, left-byte, left-after}
-use Rattle.bytes.specs.declared.flags.Flags.{Flags}
-use Rattle.bytes.specs.Flags.{flagsOf}
-use Rattle.bytes.specs.FlagsLaws.{byteOf-value, flagsOf-byteOf}
-use Rattle.links.specs.Cs.{State, recordFlags, recordBytes, recordsBytes, csBytes, recordCount, recordAt, recordContext, recordAsks}
-use Rattle.links.specs.Cs.{bitsForbidden, recordWith, recordJudged, recordsJudged, requestJudged, RequestGood}
+use Rattle.bytes.specs.Flags.{flagsOf, byteOf}
+use Rattle.bytes.specs.FlagsLaws.{flagsOf-byteOf, byteOf-lt}
 use Rattle.packet.specs.declared.refusal.Verdict.{Verdict}
 use Rattle.packet.specs.declared.refusal.Verdict.the-variants.{Accepted, Refused}
 use Rattle.packet.specs.declared.refusal.Refusal.the-variants.{Cut, Forbidden, NoSuchContext}
 use Rattle.packet.specs.Refusal.{firstRefusal}
 use Rattle.packet.specs.RefusalLaws.{firstRefusal-accepted}
+use Rattle.links.specs.declared.cs.RecordFlags.{RecordFlags}
+use Rattle.links.specs.Cs.{State, recordFlagsOf, recordFlagsBits, recordFlags, recordBytes, recordsBytes, csBytes}
+use Rattle.links.specs.Cs.{recordCount, recordAt, recordContext, recordFlagsAt, recordAsks}
+use Rattle.links.specs.Cs.{bitsForbidden, recordWith, recordJudged, recordsJudged, requestJudged, RequestGood}
+
+---- the flag byte of a record
+
+recordFlagsOf-bits : (f : RecordFlags) → f .link < 16 → recordFlagsOf (flagsOf (byteOf (recordFlagsBits f))) ≡ f
+recordFlagsOf-bits f h = ap recordFlagsOf (flagsOf-byteOf (recordFlagsBits f) h)
 
 ---- recordWith: context number, then bits
 
-module _ (k context : ℕ) (f : Flags) (generation : ℕ) where
+module _ (k context : ℕ) (f : RecordFlags) (generation : ℕ) where
   pub recordWith-context : k ≤ context → recordWith k context f generation ≡ (Refused NoSuchContext)
   unfolding recordWith
   recordWith-context h = rw (le-leb k context h)
 
-  pub recordWith-bits : context < k → (b : Bool) → bitsForbidden f generation ≡ b → recordWith k context f generation ≡ cond b (Refused Forbidden) Accepted
+  pub recordWith-bits : context < k → (b : Bool) → bitsForbidden f generation ≡ b
+      → recordWith k context f generation ≡ cond b (Refused Forbidden) Accepted
   unfolding recordWith
   recordWith-bits h b e = rw (lt-leb k context h, e)
 
@@ -40,7 +47,8 @@ module _ (k context : ℕ) (f : Flags) (generation : ℕ) where
   unfolding recordWith
   recordWith-good = by (leb k context) refl
     where
-      by : (b : Bool) → leb k context ≡ b → cond b (Refused NoSuchContext) (cond (bitsForbidden f generation) (Refused Forbidden) Accepted) ≡ Accepted → context < k
+      by : (b : Bool) → leb k context ≡ b → cond b (Refused NoSuchContext) (cond (bitsForbidden f generation) (Refused Forbidden) Accepted) ≡ Accepted
+          → context < k
       by true e g = let z : _≡_ {A = ℕ} 0 1 = cc in absurd (omega arith)
       by false e g = leb-false _ _ e
 
@@ -60,7 +68,7 @@ module _ (k : ℕ) (s : List ℕ) where
 module _ (k : ℕ) (s : List ℕ) where
   recordJudged-context : (i : ℕ) → recordJudged k s i ≡ Accepted → recordContext s i < k
   unfolding recordJudged
-  recordJudged-context i = recordWith-good k _ (flagsOf (byteAt s (recordAt i + 1))) (byteAt s (recordAt i + 2))
+  recordJudged-context i = recordWith-good k _ (recordFlagsAt s i) (byteAt s (recordAt i + 2))
 
   recordsJudged-contexts : (n i : ℕ) → recordsJudged k s i n ≡ Accepted → (j : ℕ) → j < n → recordContext s (i + j) < k
   recordsJudged-contexts zero i e j h = absurd (omega arith)
@@ -83,7 +91,8 @@ module _ (k : ℕ) (s : List ℕ) where
   pub requestJudged-good : requestJudged k s ≡ Accepted → RequestGood k s
   unfolding requestJudged
   requestJudged-good e =
-      request-by (ltb (length s) 2) (not (eqb (byteAt s 0) 1) || eqb (recordCount s) 0) (not (eqb (length s) (2 + 3 * recordCount s))) refl e
+      request-by (ltb (length s) 2) (not (eqb (byteAt s 0) 1) || eqb (recordCount s) 0)
+      (not (eqb (length s) (2 + 3 * recordCount s))) refl e
 
 ---- csBytes
 
@@ -111,26 +120,30 @@ recordsBytes-append [] qs = refl
 recordsBytes-append (r ∷ rs) qs = rw (recordsBytes-append rs qs)
 
 module _ (k : ℕ) (s : List ℕ) where
-  record-good : (i : ℕ) (r : State) (l : List ℕ) → StateFits k r → drop (recordAt i) s ≡ recordBytes (r .context) (r .link) (r .generation) ++ l
-      → recordJudged k s i ≡ Accepted
+  record-good : (i : ℕ) (r : State) (l : List ℕ) → StateFits k r
+      → drop (recordAt i) s ≡ recordBytes (r .context) (r .link) (r .generation) ++ l → recordJudged k s i ≡ Accepted
   unfolding recordJudged
   record-good i r l f e =
       rw (
         left-first s (recordAt i) _ e,
         left-byte s (recordAt i) _ e 1,
         left-byte s (recordAt i) _ e 2,
-        flagsOf-byteOf (recordFlags (r .link)) (f .link),
+        recordFlagsOf-bits (recordFlags (r .link)) (f .link),
       )
-      (recordWith-bits k (r .context) (recordFlags (r .link)) (r .generation) (f .context) false (rw (lt-leb 64 (r .generation) (f .generation))))
+      (recordWith-bits k (r .context) (recordFlags (r .link)) (r .generation) (f .context) false
+      (rw (eq-eqb (r .generation / 64) 0 (omega (arith, f .generation)))))
 
-  next-record : (i : ℕ) (r : State) (l : List ℕ) → drop (recordAt i) s ≡ recordBytes (r .context) (r .link) (r .generation) ++ l → drop (recordAt (suc i)) s ≡ l
+  next-record : (i : ℕ) (r : State) (l : List ℕ) → drop (recordAt i) s ≡ recordBytes (r .context) (r .link) (r .generation) ++ l
+      → drop (recordAt (suc i)) s ≡ l
   next-record i r l e =
       let q : recordAt (suc i) ≡ recordAt i + 3 = omega arith in
       rw q (left-after s (recordAt i) _ e 3)
 
-  records-good : (rs : List State) (i : ℕ) → StatesFit k rs → drop (recordAt i) s ≡ recordsBytes rs → recordsJudged k s i (length rs) ≡ Accepted
+  records-good : (rs : List State) (i : ℕ) → StatesFit k rs → drop (recordAt i) s ≡ recordsBytes rs
+      → recordsJudged k s i (length rs) ≡ Accepted
   records-good [] i f e = refl
-  records-good (r ∷ rs) i (more-fit h f) e = rw (record-good i r (recordsBytes rs) h e) (records-good rs (suc i) f (next-record i r (recordsBytes rs) e))
+  records-good (r ∷ rs) i (more-fit h f) e =
+      rw (record-good i r (recordsBytes rs) h e) (records-good rs (suc i) f (next-record i r (recordsBytes rs) e))
 
 -- a report of at least one context is a good request
 pub requestJudged-csBytes : (k : ℕ) (rs : List State) → 0 < length rs → StatesFit k rs → requestJudged k (csBytes rs) ≡ Accepted
@@ -154,7 +167,8 @@ records-drop (suc i) (r ∷ rs) =
     rw (q, ← drop-drop (3 * i) 3 (recordsBytes (r ∷ rs))) (records-drop i rs)
 
 record-at : (rs : List State) (i : ℕ) (d : State) → i < length rs
-    → drop (recordAt i) (csBytes rs) ≡ recordBytes (getD rs i d .context) (getD rs i d .link) (getD rs i d .generation) ++ recordsBytes (drop (suc i) rs)
+    → drop (recordAt i) (csBytes rs) ≡ recordBytes (getD rs i d .context) (getD rs i d .link) (getD rs i d .generation)
+    ++ recordsBytes (drop (suc i) rs)
 unfolding csBytes
 record-at rs i d h = rw (← drop-drop (3 * i) 2 (1 ∷ length rs ∷ recordsBytes rs), records-drop i rs, drop-cons rs i d h)
 
@@ -164,15 +178,17 @@ module _ (rs : List State) (i : ℕ) (d : State) (there : i < length rs) where
 
   pub recordAsks-csBytes : getD rs i d .link < 16 → recordAsks (csBytes rs) i ≡ true
   recordAsks-csBytes h =
-      ap (λ (b : ℕ). flagsOf b .a) (left-byte (csBytes rs) (recordAt i) _ (record-at rs i d there) 1)
-      ∙ ap (λ (f : Flags). f .a) (flagsOf-byteOf (recordFlags (getD rs i d .link)) h)
+      ap (λ (b : ℕ). recordFlagsOf (flagsOf b) .asks) (left-byte (csBytes rs) (recordAt i) _ (record-at rs i d there) 1)
+      ∙ ap (λ (f : RecordFlags). f .asks) (recordFlagsOf-bits (recordFlags (getD rs i d .link)) h)
 
 ---- bytes
 
 pub allBytes-recordsBytes : {k : ℕ} {rs : List State} → k ≤ 256 → StatesFit k rs → AllBytes (recordsBytes rs)
 allBytes-recordsBytes h none-fit = none
 allBytes-recordsBytes h (more-fit {r} {rs} f fs) =
-    more {b = r .context} (omega (arith, f .context)) (more (byteOf-value (recordFlags (r .link)) (f .link)) (more {b = r .generation} (omega (arith, f .generation)) (allBytes-recordsBytes h fs)))
+    more {b = r .context} (omega (arith, f .context))
+    (more (byteOf-lt (recordFlagsBits (recordFlags (r .link))) (f .link))
+    (more {b = r .generation} (omega (arith, f .generation)) (allBytes-recordsBytes h fs)))
 
 pub allBytes-csBytes : {k : ℕ} (rs : List State) → k ≤ 256 → length rs < 256 → StatesFit k rs → AllBytes (csBytes rs)
 unfolding csBytes

@@ -2,7 +2,7 @@
 -- The reader begins past the flag byte. Used by the compressor through outgoing, and by the decompressor.
 use Prim.Native.Nat.{ℕ}
 use mathlib.Core.Bool.{Bool, true}
-use mathlib.Core.List.{List, _∷_, _++_}
+use mathlib.Core.List.{List, [], _∷_, _++_}
 use Rattle.codes.specs.Bytes.{bigEndian}
 use Rattle.packet.specs.declared.parts.Parts.{Parts}
 use Rattle.bytes.specs.declared.flags.Flags.{Flags}
@@ -15,56 +15,91 @@ use Rattle.fields.specs.declared.place.Got32.{Got32}
 use Rattle.fields.specs.declared.place.GotList.{GotList}
 use Rattle.fields.specs.Next.{nextByte, nextWord, nextLong, nextDelta16, nextDelta32, nextPayload, nextList}
 use Rattle.links.specs.declared.head.ReadParts.{ReadParts}
+use Rattle.links.specs.declared.cu.CuFlags.{CuFlags}
+use Rattle.links.specs.declared.cu.CuSecond.{CuSecond}
 use Rattle.links.specs.declared.cu.Changes.{Changes}
 use Rattle.links.specs.declared.cu.Values.{Values}
 use Rattle.links.specs.Sent.{whole8, whole16, whole32, delta16, delta32, none16}
+use Rattle.links.specs.Head.{headBytes}
+
+---- the flag bytes, both ways
+
+-- F, I, dT, dI; the number is the link sequence
+abbrev pub cuFlagsOf : Flags → CuFlags
+cuFlagsOf f = record { values = f .bit7; id = f .bit6; dts = f .bit5; did = f .bit4 }
+
+abbrev pub cuFlagsBits : (link : ℕ) → CuFlags → Flags
+cuFlagsBits link f = record { bit7 = f .values; bit6 = f .id; bit5 = f .dts; bit4 = f .did; low = link }
+
+-- M, S, T, pt, CC
+abbrev pub cuSecondOf : Flags → CuSecond
+cuSecondOf f = record { marker = f .bit7; sequence = f .bit6; timestamp = f .bit5; payload = f .bit4; count = f .low }
+
+abbrev pub cuSecondBits : CuSecond → Flags
+cuSecondBits g = record { bit7 = g .marker; bit6 = g .sequence; bit5 = g .timestamp; bit4 = g .payload; low = g .count }
 
 ---- bytes
 
--- F, I, dT, dI, link sequence
-abbrev pub cuFlags : ℕ → Parts → Flags
-cuFlags link h = record { a = true; b = h .id .sent; c = h .dts .sent; d = h .did .sent; low = link }
+-- what the flags say of some parts. values: F
+abbrev pub cuSent : (values : Bool) → Parts → CuFlags
+cuSent values h = record { values = values; id = h .id .sent; dts = h .dts .sent; did = h .did .sent }
 
--- M, S, T, pt, CC
-abbrev pub cuSecond : Parts → Flags
-cuSecond h = record { a = h .marker; b = h .sequence .sent; c = h .timestamp .sent; d = h .payload .sent; low = h .csrc .count }
+abbrev pub cuFlags : (link : ℕ) → Parts → Flags
+cuFlags link h = cuFlagsBits link (cuSent true h)
+
+abbrev pub cuSecond : Parts → CuSecond
+cuSecond h = record {
+  marker = h .marker;
+  sequence = h .sequence .sent;
+  timestamp = h .timestamp .sent;
+  payload = h .payload .sent;
+  count = h .csrc .count;
+}
+
+abbrev pub cuSecondByte : Parts → ℕ
+cuSecondByte h = byteOf (cuSecondBits (cuSecond h))
 
 -- the UDP checksum where it is carried, the differences of ID and timestamp, the ID
-abbrev pub changeBytes : Bool → Parts → List ℕ
-changeBytes carried h = optional carried (bigEndian 2 (h .checksum)) ++ (delta16 (h .did) ++ (delta32 (h .dts) ++ whole16 (h .id)))
+abbrev pub changesBytes : (carried : Bool) → Parts → List ℕ
+changesBytes carried h = optional carried (bigEndian 2 (h .checksum)) ++ (delta16 (h .did) ++ (delta32 (h .dts) ++ whole16 (h .id)))
 
 -- sequence, timestamp, payload type, CSRC list
-abbrev pub valueBytes : Parts → List ℕ
-valueBytes h = whole16 (h .sequence) ++ (whole32 (h .timestamp) ++ (whole8 (h .payload) ++ listBytes (h .csrc)))
+abbrev pub valuesBytes : Parts → List ℕ
+valuesBytes h = whole16 (h .sequence) ++ (whole32 (h .timestamp) ++ (whole8 (h .payload) ++ listBytes (h .csrc)))
 
-unfoldable pub cuBytes : (context link : ℕ) → Bool → Parts → List ℕ
-cuBytes context link carried h = context ∷ byteOf (cuFlags link h) ∷ byteOf (cuSecond h) ∷ (changeBytes carried h ++ valueBytes h)
+unfoldable pub cuBytes : (context link : ℕ) → (carried : Bool) → Parts → List ℕ
+cuBytes context link carried h =
+    headBytes context (cuFlags link h) ++ ((cuSecondByte h ∷ []) ++ (changesBytes carried h ++ valuesBytes h))
 
 ---- reader
 
--- f: F, I, dT, dI
-unfoldable pub changesOf : List ℕ → Place → Flags → Bool → Changes
+unfoldable pub changesOf : List ℕ → Place → CuFlags → (carried : Bool) → Changes
 changesOf s p f carried =
-    let a : Got16 = nextWord s p carried in
-    let b : Got16 = nextDelta16 s (a .place) (f .d) in
-    let c : Got32 = nextDelta32 s (b .place) (f .c) in
-    let d : Got16 = nextWord s (c .place) (f .b) in
-    record { place = d .place; checksum = a .field .value; did = b .field; dts = c .field; id = d .field }
+    let checksum : Got16 = nextWord s p carried in
+    let did : Got16 = nextDelta16 s (checksum .place) (f .did) in
+    let dts : Got32 = nextDelta32 s (did .place) (f .dts) in
+    let id : Got16 = nextWord s (dts .place) (f .id) in
+    record { place = id .place; checksum = checksum .field .value; did = did .field; dts = dts .field; id = id .field }
 
--- g: M, S, T, pt, CC
-unfoldable pub valuesOf : List ℕ → Place → Flags → Values
+unfoldable pub valuesOf : List ℕ → Place → CuSecond → Values
 valuesOf s p g =
-    let a : Got16 = nextWord s p (g .b) in
-    let b : Got32 = nextLong s (a .place) (g .c) in
-    let c : Got8 = nextPayload s (b .place) (g .d) in
-    let d : GotList = nextList s (c .place) (g .low) in
-    record { place = d .place; sequence = a .field; timestamp = b .field; payload = c .field; csrc = d .list }
+    let sequence : Got16 = nextWord s p (g .sequence) in
+    let timestamp : Got32 = nextLong s (sequence .place) (g .timestamp) in
+    let payload : Got8 = nextPayload s (timestamp .place) (g .payload) in
+    let csrc : GotList = nextList s (payload .place) (g .count) in
+    record {
+      place = csrc .place;
+      sequence = sequence .field;
+      timestamp = timestamp .field;
+      payload = payload .field;
+      csrc = csrc .list;
+    }
 
-abbrev pub cuParts : Flags → Changes → Values → ReadParts
+abbrev pub cuParts : CuSecond → Changes → Values → ReadParts
 cuParts g c v = record {
   place = v .place;
   parts = record {
-    marker = g .a;
+    marker = g .marker;
     checksum = c .checksum;
     id = c .id;
     sequence = v .sequence;
@@ -79,11 +114,14 @@ cuParts g c v = record {
 }
 
 -- past the second byte g
-unfoldable pub cuRest : List ℕ → Place → (f g : Flags) → Bool → ReadParts
+unfoldable pub cuRest : List ℕ → Place → CuFlags → CuSecond → (carried : Bool) → ReadParts
 cuRest s p f g carried =
-    let c : Changes = changesOf s p f carried in
-    let v : Values = valuesOf s (c .place) g in
-    cuParts g c v
+    let changes : Changes = changesOf s p f carried in
+    let values : Values = valuesOf s (changes .place) g in
+    cuParts g changes values
 
-unfoldable pub cuOf : List ℕ → Place → Flags → Bool → ReadParts
-cuOf s p f carried = let a : Got8 = nextByte s p true in cuRest s (a .place) f (flagsOf (a .field .value)) carried
+-- past the flag byte f
+unfoldable pub cuOf : List ℕ → Place → Flags → (carried : Bool) → ReadParts
+cuOf s p f carried =
+    let second : Got8 = nextByte s p true in
+    cuRest s (second .place) (cuFlagsOf f) (cuSecondOf (flagsOf (second .field .value))) carried

@@ -7,7 +7,7 @@ use lib.Dec.{eqb, leb, ltb}
 use lib.ListN.{length}
 use Rattle.codes.specs.Reading.{byteAt, wordAt}
 use Rattle.packet.specs.declared.header.Header.{Header}
-use Rattle.headers.specs.Header.{countAt, headerOf, headerBytes}
+use Rattle.headers.specs.Header.{countAt, headerOf, headerBytes, sizeWith, headerSize}
 use Rattle.headers.specs.Checksum.{ipChecksumOf, ipChecksum}
 use Rattle.headers.specs.Compressible.{fixedForm}
 use Rattle.packet.specs.declared.refusal.Verdict.{Verdict}
@@ -41,7 +41,7 @@ fhJudged k s =
     cond (ltb (length s) 40) (Refused Cut)
     (cond (leb k (byteAt s 3)) (Refused NoSuchContext)
     (cond (not (fixedForm s && fieldsForm s && checksumRight s)) (Refused Forbidden)
-    (cond (ltb (length s) (40 + 4 * countAt s 28)) (Refused Cut) Accepted)))
+    (cond (ltb (length s) (sizeWith (countAt s 28))) (Refused Cut) Accepted)))
 
 ---- what it says
 
@@ -51,5 +51,5 @@ fhOf s = record {
   context = byteAt s 3;
   generation = byteAt s 2 % 64;
   link = byteAt s 25 % 16;
-  start = 40 + 4 * countAt s 28;
+  start = headerSize (headerOf s);
 }

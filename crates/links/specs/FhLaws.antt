@@ -12,11 +12,14 @@ use Rattle.codes.specs.Bytes.{AllBytes}
 use Rattle.codes.specs.Reading.{byteAt, wordAt}
 use Rattle.packet.specs.Ranges.{HeaderInRange}
 use Rattle.packet.specs.declared.header.Header.{Header}
-use Rattle.headers.specs.Header.{countAt, rtpAt, headerOf, ipFront, ipBack, udpBytes, headerBytes, headerSize}
+use Rattle.headers.specs.Header.{countAt, headerOf, ipFront, ipBack, udpBytes, headerBytes, sizeWith, headerSize}
 use Rattle.headers.specs.Checksum.{ipChecksumOf, ipChecksum}
 use Rattle.headers.specs.Compressible.{fixedForm}
+use Rattle.headers.specs.CompressibleLaws.{headerSize-headerOf}
 use Rattle.headers.specs.HeaderLaws.{countAt-headerBytes, headerOf-headerBytes, headerOf-range, udpLength-headerBytes, ipChecksum-headerBytes, fixedForm-headerBytes, length-headerBytes, allBytes-headerBytes}
-use Rattle.headers.specs.ChecksumLaws.{ipChecksum-lt, ipChecksumOf-headerBytes}
+use Rattle.headers.specs.HeaderLaws.{length-headerBytes, allBytes-headerBytes}
+use Rattle.headers.specs.HeaderLaws.{udpLength-headerBytes, ipChecksum-headerBytes, fixedForm-headerBytes}
+use Rattle.headers.specs.ChecksumLaws.{ipChecksumOf-headerBytes, ipChecksum-lt}
 use Rattle.packet.specs.declared.refusal.Verdict.the-variants.{Accepted, Refused}
 use Rattle.packet.specs.declared.refusal.Refusal.the-variants.{Cut, Forbidden, NoSuchContext}
 use Rattle.links.specs.Fh.{ipField, fhBytes, fieldsForm, checksumRight, fhJudged, fhOf}
@@ -24,7 +27,7 @@ use Rattle.links.specs.Fh.{ipField, fhBytes, fieldsForm, checksumRight, 
 ---- what is told by a full header that is judged good
 
 pub record FhGood (k : ℕ) (s : List ℕ) : Type 0 where
-  pub whole : 40 + 4 * countAt s 28 ≤ length s
+  pub whole : sizeWith (countAt s 28) ≤ length s
   pub context : byteAt s 3 < k
   pub form : fixedForm s ≡ true
 
@@ -34,7 +37,8 @@ module _ (k : ℕ) (s : List ℕ) where
   and-first false b c e = sym e
 
   judged-by : (a b c d : Bool) → leb k (byteAt s 3) ≡ b → not (fixedForm s && fieldsForm s && checksumRight s) ≡ c
-      → ltb (length s) (40 + 4 * countAt s 28) ≡ d → cond a (Refused Cut) (cond b (Refused NoSuchContext) (cond c (Refused Forbidden) (cond d (Refused Cut) Accepted))) ≡ Accepted → FhGood k s
+      → ltb (length s) (sizeWith (countAt s 28)) ≡ d → cond a (Refused Cut) (cond b (Refused NoSuchContext) (cond c (Refused Forbidden) (cond d (Refused Cut) Accepted))) ≡ Accepted
+      → FhGood k s
   judged-by true b c d f g h e = let z : _≡_ {A = ℕ} 0 1 = cc in absurd (omega arith)
   judged-by false true c d f g h e = let z : _≡_ {A = ℕ} 0 1 = cc in absurd (omega arith)
   judged-by false false true d f g h e = let z : _≡_ {A = ℕ} 0 1 = cc in absurd (omega arith)
@@ -48,18 +52,19 @@ module _ (k : ℕ) (s : List ℕ) where
   pub fhJudged-good : fhJudged k s ≡ Accepted → FhGood k s
   unfolding fhJudged
   fhJudged-good e =
-      judged-by (ltb (length s) 40) (leb k (byteAt s 3)) (not (fixedForm s && fieldsForm s && checksumRight s)) (ltb (length s) (40 + 4 * countAt s 28)) refl refl refl e
+      judged-by (ltb (length s) 40) (leb k (byteAt s 3)) (not (fixedForm s && fieldsForm s && checksumRight s))
+      (ltb (length s) (sizeWith (countAt s 28))) refl refl refl e
 
 ---- what it says, whatever the bytes
 
 module _ (s : List ℕ) where
   pub fhOf-start : fhOf s .start ≡ headerSize (fhOf s .header)
-  unfolding fhOf headerOf rtpAt
+  unfolding fhOf
   fhOf-start = refl
 
   pub fhOf-within : (k : ℕ) → fhJudged k s ≡ Accepted → fhOf s .start ≤ length s
   unfolding fhOf
-  fhOf-within k e = fhJudged-good k s e .whole
+  fhOf-within k e = rw (headerSize-headerOf s) (fhJudged-good k s e .whole)
 
   pub fhOf-context : (k : ℕ) → fhJudged k s ≡ Accepted → fhOf s .context < k
   unfolding fhOf
@@ -110,7 +115,9 @@ module _ (k context generation link total : ℕ) (h : Header) (fits : FhFits k c
 
     link-word : wordAt packet 24 ≡ link
     unfolding fhBytes
-    link-word = udpLength-headerBytes (ipField context generation) link (ipChecksum h total) h rest (fits .range) (omega (arith, fits .small))
+    link-word =
+        udpLength-headerBytes (ipField context generation) link (ipChecksum h total) h rest (fits .range)
+        (omega (arith, fits .small))
 
     link-byte : byteAt packet 25 ≡ link
     unfolding fhBytes headerBytes ipFront ipBack udpBytes
@@ -133,7 +140,8 @@ module _ (k context generation link total : ℕ) (h : Header) (fits : FhFits k c
 
     checksum-word : wordAt packet 10 ≡ ipChecksum h total
     unfolding fhBytes
-    checksum-word = ipChecksum-headerBytes (ipField context generation) link (ipChecksum h total) h rest (fits .range) (ipChecksum-lt h total)
+    checksum-word =
+        ipChecksum-headerBytes (ipField context generation) link (ipChecksum h total) h rest (fits .range) (ipChecksum-lt h total)
 
     checksum-worked : ipChecksumOf packet total ≡ ipChecksum h total
     unfolding fhBytes
@@ -166,16 +174,17 @@ module _ (k context generation link total : ℕ) (h : Header) (fits : FhFits k c
           fields-hold,
           checksum-holds e,
           count-byte,
-          le-ltb (length packet) (40 + 4 * h .csrc .count) (omega arith),
+          le-ltb (length packet) (headerSize h) (omega arith),
         )
 
     -- and read back
-    pub fhOf-fhBytes : fhOf packet ≡ record { header = h; context = context; generation = generation; link = link; start = headerSize h }
+    pub fhOf-fhBytes : fhOf packet
+        ≡ record { header = h; context = context; generation = generation; link = link; start = headerSize h }
     unfolding fhOf
     fhOf-fhBytes = λ i. record {
       header = header-back i;
       context = context-byte i;
       generation = generation-back i;
       link = link-back i;
-      start = 40 + 4 * count-byte i;
+      start = headerSize (header-back i);
     }

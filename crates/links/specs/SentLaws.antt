@@ -16,7 +16,13 @@ use Rattle.packet.specs.declared.sent.Sent32.{Sent32}
 use Rattle.bytes.specs.PutLaws.{allBytes-optional}
 use Rattle.links.specs.Sent.{whole8, whole16, whole32, delta16, delta32, none8, none16, none32}
 
----- four runs, one after another
+---- runs, one after another
+
+pub length-three : (A B C : List ℕ) (at : ℕ) → at + length A + length B + length C ≡ at + length (A ++ (B ++ C))
+length-three A B C at = simp length-append (omega arith)
+
+pub append-three : (A B C l : List ℕ) → (A ++ (B ++ C)) ++ l ≡ A ++ (B ++ (C ++ l))
+append-three A B C l = rw (append-assoc, append-assoc)
 
 pub length-four : (A B C D : List ℕ) (at : ℕ) → at + length A + length B + length C + length D ≡ at + length (A ++ (B ++ (C ++ D)))
 length-four A B C D at = simp length-append (omega arith)

@@ -7,6 +7,7 @@
 // context is not decided here.
 // Read `specs/Cu.antt` first, and `specs/CuLaws.antt`, which holds its two directions together.
 pub mod cr;
+pub mod cs;
 pub mod cu;
 pub mod fh;
 pub mod head;

@@ -4,7 +4,7 @@ use packet::parts::Parts;
 
 // The twelve fixed bytes of an RTP header.
 //
-// first: version, padding, extension and CSRC count; second: marker and payload type.
+// first and second are split into bits as `headers` says.
 pub struct Fixed {
     pub place: Place,
     pub first: u8,

@@ -1,15 +1,16 @@
 ghost use mathlib.Core.Path.{_≡_};
-ghost use Prim.Native.Nat.{_%_};
 ghost use Rattle.links.specs.Whole.{fixedOf, rtpOf, wholeOf};
 use crate::cu::read_changes;
+use crate::cu::split_flags;
 use bytes::flags::Flags;
-use bytes::flags::split;
 use fields::list::next_list;
 use fields::next::next_byte;
 use fields::next::next_long;
 use fields::next::next_version;
 use fields::next::next_word;
 use fields::place::Place;
+use headers_read::rtp::split_first;
+use headers_read::rtp::split_second;
 use links::whole::Fixed;
 use links::whole::GotRtp;
 use links::whole::ReadWhole;
@@ -20,81 +21,74 @@ use packet::sent::Sent8;
 use packet::sent::Sent16;
 use packet::sent::Sent32;
 
-fn read_fixed(s: &[u8], p: Place) -> Fixed
-    ensures { λ r. ⌜ r ≡ fixedOf (now (s .entry)) p ⌝ }
+fn read_fixed(s: &[u8], place: Place) -> Fixed
+    ensures { λ r. ⌜ r ≡ fixedOf (now (s .entry)) place ⌝ }
 {
-    let a = next_version(s, p);
-    let b = next_byte(s, a.place, true);
-    let c = next_word(s, b.place, true);
-    let d = next_long(s, c.place, true);
-    let e = next_long(s, d.place, true);
-    let v = a.field;
-    let w = b.field;
-    let x = c.field;
-    let y = d.field;
-    let z = e.field;
-    let q = e.place;
+    let first = next_version(s, place);
+    let second = next_byte(s, first.place, true);
+    let sequence = next_word(s, second.place, true);
+    let timestamp = next_long(s, sequence.place, true);
+    let ssrc = next_long(s, timestamp.place, true);
+    let past = ssrc.place;
+    let first = first.field;
+    let second = second.field;
+    let sequence = sequence.field;
+    let timestamp = timestamp.field;
+    let ssrc = ssrc.field;
     Fixed {
-        place: q,
-        first: v.value,
-        second: w.value,
-        sequence: x.value,
-        timestamp: y.value,
-        ssrc: z.value,
+        place: past,
+        first: first.value,
+        second: second.value,
+        sequence: sequence.value,
+        timestamp: timestamp.value,
+        ssrc: ssrc.value,
     }
 }
 
-// The seven bits below a byte's top bit.
-fn low_seven(b: u8) -> u8
-    ensures { λ r. ⌜ r ≡ b % 128 ⌝ }
+fn read_rtp(s: &[u8], place: Place) -> GotRtp
+    ensures { λ r. ⌜ r ≡ rtpOf (now (s .entry)) place ⌝ }
 {
-    b & 127
-}
-
-fn read_rtp(s: &[u8], p: Place) -> GotRtp
-    ensures { λ r. ⌜ r ≡ rtpOf (now (s .entry)) p ⌝ }
-{
-    let x = read_fixed(s, p);
-    let f = split(x.first);
-    let g = split(x.second);
-    let l = next_list(s, x.place, f.low);
-    let payload = low_seven(x.second);
-    let q = l.place;
-    let csrc = l.list;
+    let fixed = read_fixed(s, place);
+    let first = split_first(fixed.first);
+    let second = split_second(fixed.second);
+    let list = next_list(s, fixed.place, first.count);
+    let past = list.place;
+    let csrc = list.list;
     GotRtp {
-        place: q,
+        place: past,
         header: RtpHeader {
-            ssrc: x.ssrc,
-            marker: g.a,
+            ssrc: fixed.ssrc,
+            marker: second.marker,
             rtp: Rtp {
-                padding: f.c,
-                extension: f.d,
-                payload: payload,
-                sequence: x.sequence,
-                timestamp: x.timestamp,
+                padding: first.padding,
+                extension: first.extension,
+                payload: second.payload,
+                sequence: fixed.sequence,
+                timestamp: fixed.timestamp,
             },
             csrc: csrc,
         },
     }
 }
 
-// A CU whose flag byte f was read, F not among its flags.
-pub fn read_cu_whole(s: &[u8], p: Place, f: Flags, carried: bool) -> ReadWhole
-    ensures { λ r. ⌜ r ≡ wholeOf (now (s .entry)) p f carried ⌝ }
+// A CU whose flag byte was read, F not among its flags.
+pub fn read_cu_whole(s: &[u8], place: Place, flags: Flags, carried: bool) -> ReadWhole
+    ensures { λ r. ⌜ r ≡ wholeOf (now (s .entry)) place flags carried ⌝ }
 {
-    let c = read_changes(s, p, f, carried);
-    let w = read_rtp(s, c.place);
-    let q = w.place;
-    let h = w.header;
-    let id = c.id;
-    let did = c.did;
-    let dts = c.dts;
+    let flags = split_flags(flags);
+    let changes = read_changes(s, place, flags, carried);
+    let rtp = read_rtp(s, changes.place);
+    let past = rtp.place;
+    let header = rtp.header;
+    let id = changes.id;
+    let did = changes.did;
+    let dts = changes.dts;
     let csrc = packet::csrc::no_list();
     ReadWhole {
-        place: q,
+        place: past,
         parts: Parts {
-            marker: h.marker,
-            checksum: c.checksum,
+            marker: header.marker,
+            checksum: changes.checksum,
             id: id,
             sequence: Sent16 {
                 sent: false,
@@ -117,6 +111,6 @@ pub fn read_cu_whole(s: &[u8], p: Place, f: Flags, carried: bool) -> ReadWhole
             listed: false,
             csrc: csrc,
         },
-        header: h,
+        header: header,
     }
 }

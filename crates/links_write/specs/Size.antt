@@ -6,20 +6,17 @@ use lib.ListN.{length}
 use Rattle.packet.specs.declared.parts.Parts.{Parts}
 use Rattle.links.specs.Sent.{delta16, delta32}
 
-abbrev pub changeSize : Bool → Parts → ℕ
-changeSize carried h = cond carried 2 0 + length (delta16 (h .did)) + length (delta32 (h .dts)) + cond (h .id .sent) 2 0
+abbrev pub changesSize : Bool → Parts → ℕ
+changesSize carried h = cond carried 2 0 + length (delta16 (h .did)) + length (delta32 (h .dts)) + cond (h .id .sent) 2 0
 
-abbrev pub valueSize : Parts → ℕ
-valueSize h = cond (h .sequence .sent) 2 0 + cond (h .timestamp .sent) 4 0 + cond (h .payload .sent) 1 0 + 4 * h .csrc .count
+abbrev pub valuesSize : Parts → ℕ
+valuesSize h = cond (h .sequence .sent) 2 0 + cond (h .timestamp .sent) 4 0 + cond (h .payload .sent) 1 0 + 4 * h .csrc .count
 
 abbrev pub cuSize : Bool → Parts → ℕ
-cuSize carried h = 3 + changeSize carried h + valueSize h
+cuSize carried h = 3 + changesSize carried h + valuesSize h
 
-abbrev pub crHeadSize : Bool → Parts → ℕ
-crHeadSize carried h = 2 + cond carried 2 0 + cond (h .listed) 1 0
-
-abbrev pub deltaSize : Parts → ℕ
-deltaSize h = length (delta16 (h .did)) + length (delta16 (h .dsn)) + length (delta32 (h .dts)) + 4 * h .csrc .count
+abbrev pub deltasSize : Parts → ℕ
+deltasSize h = length (delta16 (h .did)) + length (delta16 (h .dsn)) + length (delta32 (h .dts))
 
 abbrev pub crSize : Bool → Parts → ℕ
-crSize carried h = crHeadSize carried h + deltaSize h
+crSize carried h = 2 + cond carried 2 0 + cond (h .listed) 1 0 + deltasSize h + 4 * h .csrc .count

@@ -8,24 +8,23 @@ use native.Mathlib.Omega.{arith}
 use lib.ListN.{length, length-append}
 use Rattle.codes.specs.Bytes.{bigEndian}
 use Rattle.packet.specs.declared.parts.Parts.{Parts}
-use Rattle.bytes.specs.Flags.{byteOf}
 use Rattle.bytes.specs.Put.{optional}
 use Rattle.headers.specs.ListLaws.{length-listBytes}
-use Rattle.links.specs.Cu.{changeBytes, valueBytes, cuBytes}
-use Rattle.links.specs.Cr.{crOwn, crHeadBytes, deltaBytes, crBytes}
-use Rattle.links_write.specs.Size.{changeSize, valueSize, cuSize, crHeadSize, deltaSize, crSize}
+use Rattle.links.specs.Cu.{changesBytes, valuesBytes, cuBytes}
+use Rattle.links.specs.Cr.{crSecondByte, deltasBytes, crBytes}
+use Rattle.links_write.specs.Size.{changesSize, valuesSize, cuSize, deltasSize, crSize}
 
 length-optional : (w : Bool) (bs : List ℕ) → length (optional w bs) ≡ cond w (length bs) 0
 length-optional true bs = refl
 length-optional false bs = refl
 
-length-changes : (carried : Bool) (h : Parts) → length (changeBytes carried h) ≡ changeSize carried h
+length-changes : (carried : Bool) (h : Parts) → length (changesBytes carried h) ≡ changesSize carried h
 length-changes carried h =
     let a = length-optional carried (bigEndian 2 (h .checksum)) in
     let b = length-optional (h .id .sent) (bigEndian 2 (h .id .value)) in
     simp length-append (omega arith)
 
-length-values : (h : Parts) → h .csrc .count ≤ length (h .csrc .words) → length (valueBytes h) ≡ valueSize h
+length-values : (h : Parts) → h .csrc .count ≤ length (h .csrc .words) → length (valuesBytes h) ≡ valuesSize h
 length-values h k =
     let a = length-optional (h .sequence .sent) (bigEndian 2 (h .sequence .value)) in
     let b = length-optional (h .timestamp .sent) (bigEndian 4 (h .timestamp .value)) in
@@ -39,25 +38,17 @@ module _ (context link : ℕ) (carried : Bool) (h : Parts) (listed : h .csrc .co
   length-cuBytes =
       let a = length-changes carried h in
       let b = length-values h listed in
-      let c = length-append (changeBytes carried h) (valueBytes h) in
+      let c = length-append (changesBytes carried h) (valuesBytes h) in
       omega arith
 
-  length-crHead : length (crHeadBytes context link carried h) ≡ crHeadSize carried h
-  length-crHead =
-      let K = optional carried (bigEndian 2 (h .checksum)) in
-      let L = optional (h .listed) (byteOf (crOwn h (h .csrc .count)) ∷ []) in
-      let a = length-optional carried (bigEndian 2 (h .checksum)) in
-      let b = length-optional (h .listed) (byteOf (crOwn h (h .csrc .count)) ∷ []) in
-      let c = length-append K L in
-      omega arith
-
-  length-deltas : length (deltaBytes h) ≡ deltaSize h
-  length-deltas = let d = length-listBytes (h .csrc) listed in simp length-append (omega arith)
+  length-deltas : length (deltasBytes h) ≡ deltasSize h
+  length-deltas = simp length-append (omega arith)
 
   pub length-crBytes : length (crBytes context link carried h) ≡ crSize carried h
   unfolding crBytes
   length-crBytes =
-      let a = length-crHead in
-      let b = length-deltas in
-      let c = length-append (crHeadBytes context link carried h) (deltaBytes h) in
-      omega arith
+      let a = length-optional carried (bigEndian 2 (h .checksum)) in
+      let b = length-optional (h .listed) (crSecondByte h ∷ []) in
+      let c = length-deltas in
+      let d = length-listBytes (h .csrc) listed in
+      simp length-append (omega arith)

@@ -1,50 +1,60 @@
 ghost use mathlib.Core.Path.{_≡_};
+ghost use mathlib.Core.Bool.{cond};
 ghost use Prim.Native.Nat.{_<_, _≤_, _+_};
 ghost use lib.ListN.{length};
-ghost use Rattle.bytes.specs.Flags.{byteOf};
 ghost use Rattle.bytes.specs.Put.{Wrote};
-ghost use Rattle.links.specs.Cr.{crOwn, crFlags, crHeadBytes, deltaBytes, crBytes};
-ghost use Rattle.links_write.specs.Size.{crHeadSize, deltaSize, crSize};
+ghost use Rattle.links.specs.Head.{headBytes};
+ghost use Rattle.links.specs.Cr.{crFlagsBits, crSent, crFirst, crFlags, secondBytes, deltasBytes, crBytes};
+ghost use Rattle.links_write.specs.Size.{deltasSize, crSize};
 use crate::delta::delta16_size;
 use crate::delta::delta32_size;
 use crate::delta::put_delta16;
 use crate::delta::put_delta32;
 use crate::delta::size_if;
+use crate::head::put_head;
 use bytes::flags::Flags;
 use bytes::flags::pack;
 use bytes::put::put_list;
-use bytes::put::put8;
 use bytes::put::put8_if;
 use bytes::put::put16_if;
+use links::cr::CrFlags;
 use packet::parts::Parts;
 
-// The flag byte: 1111 says that the second stands.
-fn cr_flags(link: u8, h: Parts) -> u8
-    requires { ⌜ link < 16 ⌝ }
-    ensures { λ r. ⌜ r ≡ byteOf (crFlags link h) ⌝ }
+// The bits of a flag byte in their places.
+fn join_flags(number: u8, flags: CrFlags) -> Flags
+    ensures { λ r. ⌜ r ≡ crFlagsBits number flags ⌝ }
 {
-    let f = Flags {
-        a: h.listed | h.marker,
-        b: h.listed | h.dsn.sent,
-        c: h.listed | h.dts.sent,
-        d: h.listed | h.did.sent,
-        low: link,
-    };
-    pack(f)
+    Flags {
+        bit7: flags.marker,
+        bit6: flags.dsn,
+        bit5: flags.dts,
+        bit4: flags.did,
+        low: number,
+    }
 }
 
-fn cr_second(h: Parts) -> u8
-    requires { ⌜ h .csrc .count ≤ 15 ⌝ }
-    ensures { λ r. ⌜ r ≡ byteOf (crOwn h (h .csrc .count)) ⌝ }
+// What the flags say of some parts.
+fn sent_flags(h: Parts) -> CrFlags
+    ensures { λ r. ⌜ r ≡ crSent h ⌝ }
 {
-    let f = Flags {
-        a: h.marker,
-        b: h.dsn.sent,
-        c: h.dts.sent,
-        d: h.did.sent,
-        low: h.csrc.count,
-    };
-    pack(f)
+    CrFlags {
+        marker: h.marker,
+        dsn: h.dsn.sent,
+        dts: h.dts.sent,
+        did: h.did.sent,
+    }
+}
+
+// The flags of the first byte: 1111 says that the second stands.
+fn first_flags(listed: bool, own: CrFlags) -> CrFlags
+    ensures { λ r. ⌜ r ≡ crFirst listed own ⌝ }
+{
+    CrFlags {
+        marker: listed | own.marker,
+        dsn: listed | own.dsn,
+        dts: listed | own.dts,
+        did: listed | own.did,
+    }
 }
 
 // How many bytes a CR has before the rest of the packet.
@@ -52,36 +62,45 @@ pub fn cr_size(carried: bool, h: Parts) -> usize
     requires { ⌜ h .csrc .count ≤ 15 ⌝ }
     ensures { λ r. ⌜ (r ≡ crSize carried h) × (r ≤ 74) ⌝ }
 {
-    let a = size_if(carried, 2);
-    let b = size_if(h.listed, 1);
-    let c = delta16_size(h.did);
-    let d = delta16_size(h.dsn);
-    let e = delta32_size(h.dts);
-    let l = h.csrc;
-    2 + a + b + (c + d + e + 4 * (l.count as usize))
+    let checksum = size_if(carried, 2);
+    let second = size_if(h.listed, 1);
+    let did = delta16_size(h.did);
+    let dsn = delta16_size(h.dsn);
+    let dts = delta32_size(h.dts);
+    let list = h.csrc;
+    2 + checksum + second + (did + dsn + dts) + 4 * (list.count as usize)
 }
 
-fn put_head(out: &mut [u8], at: usize, context: u8, link: u8, carried: bool, h: Parts) -> usize
-    requires { ⌜ (link < 16) × (h .csrc .count ≤ 15) × (at + crHeadSize carried h ≤ length (now out)) ⌝ }
-    ensures { λ r. ⌜ (r ≡ at + crHeadSize carried h) × Wrote (now (out .entry)) (now (out .exit)) at r (crHeadBytes context link carried h) ⌝ }
+// The context number and the flag byte.
+fn put_flags(out: &mut [u8], at: usize, context: u8, link: u8, h: Parts) -> usize
+    requires { ⌜ (link < 16) × (at + 2 ≤ length (now out)) ⌝ }
+    ensures { λ r. ⌜ (r ≡ at + 2) × Wrote (now (out .entry)) (now (out .exit)) at r (headBytes context (crFlags link h)) ⌝ }
 {
-    let f = cr_flags(link, h);
-    let g = cr_second(h);
-    let a = put8(out, at, context);
-    let b = put8(out, a, f);
-    let c = put16_if(out, b, carried, h.checksum);
-    put8_if(out, c, h.listed, g)
+    let own = sent_flags(h);
+    let first = first_flags(h.listed, own);
+    let flags = join_flags(link, first);
+    put_head(out, at, context, flags)
+}
+
+// The second byte, where there is a list.
+fn put_second(out: &mut [u8], at: usize, h: Parts) -> usize
+    requires { ⌜ (h .csrc .count ≤ 15) × (at + cond (h .listed) 1 0 ≤ length (now out)) ⌝ }
+    ensures { λ r. ⌜ (r ≡ at + cond (h .listed) 1 0)
+        × Wrote (now (out .entry)) (now (out .exit)) at r (secondBytes (h .listed) h) ⌝ }
+{
+    let own = sent_flags(h);
+    let flags = join_flags(h.csrc.count, own);
+    let byte = pack(flags);
+    put8_if(out, at, h.listed, byte)
 }
 
 fn put_deltas(out: &mut [u8], at: usize, h: Parts) -> usize
-    requires { ⌜ (h .csrc .count ≤ 15) × (at + deltaSize h ≤ length (now out)) ⌝ }
-    ensures { λ r. ⌜ (r ≡ at + deltaSize h) × Wrote (now (out .entry)) (now (out .exit)) at r (deltaBytes h) ⌝ }
+    requires { ⌜ at + deltasSize h ≤ length (now out) ⌝ }
+    ensures { λ r. ⌜ (r ≡ at + deltasSize h) × Wrote (now (out .entry)) (now (out .exit)) at r (deltasBytes h) ⌝ }
 {
-    let l = h.csrc;
-    let a = put_delta16(out, at, h.did);
-    let b = put_delta16(out, a, h.dsn);
-    let c = put_delta32(out, b, h.dts);
-    put_list(out, c, l)
+    let at = put_delta16(out, at, h.did);
+    let at = put_delta16(out, at, h.dsn);
+    put_delta32(out, at, h.dts)
 }
 
 // The bytes of a CR.
@@ -89,6 +108,10 @@ pub fn put_cr(out: &mut [u8], at: usize, context: u8, link: u8, carried: bool, h
     requires { ⌜ (link < 16) × (h .csrc .count ≤ 15) × (at + crSize carried h ≤ length (now out)) ⌝ }
     ensures { λ r. ⌜ Wrote (now (out .entry)) (now (out .exit)) at r (crBytes context link carried h) ⌝ }
 {
-    let a = put_head(out, at, context, link, carried, h);
-    put_deltas(out, a, h)
+    let list = h.csrc;
+    let at = put_flags(out, at, context, link, h);
+    let at = put16_if(out, at, carried, h.checksum);
+    let at = put_second(out, at, h);
+    let at = put_deltas(out, at, h);
+    put_list(out, at, list)
 }

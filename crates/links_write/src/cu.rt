@@ -2,15 +2,16 @@ ghost use mathlib.Core.Path.{_≡_};
 ghost use mathlib.Core.List.{[], _∷_};
 ghost use Prim.Native.Nat.{_<_, _≤_, _+_};
 ghost use lib.ListN.{length};
-ghost use Rattle.bytes.specs.Flags.{byteOf};
 ghost use Rattle.bytes.specs.Put.{Wrote};
-ghost use Rattle.links.specs.Cu.{cuFlags, cuSecond, changeBytes, valueBytes, cuBytes};
-ghost use Rattle.links_write.specs.Size.{changeSize, valueSize, cuSize};
+ghost use Rattle.links.specs.Head.{headBytes};
+ghost use Rattle.links.specs.Cu.{cuFlagsBits, cuSecondBits, cuFlags, cuSecondByte, changesBytes, valuesBytes, cuBytes};
+ghost use Rattle.links_write.specs.Size.{changesSize, valuesSize, cuSize};
 use crate::delta::delta16_size;
 use crate::delta::delta32_size;
 use crate::delta::put_delta16;
 use crate::delta::put_delta32;
 use crate::delta::size_if;
+use crate::head::put_head;
 use bytes::flags::Flags;
 use bytes::flags::pack;
 use bytes::put::put_list;
@@ -18,56 +19,54 @@ use bytes::put::put8;
 use bytes::put::put8_if;
 use bytes::put::put16_if;
 use bytes::put::put32_if;
+use links::cu::CuFlags;
+use links::cu::CuSecond;
 use packet::parts::Parts;
 
-// The two flag bytes.
-fn cu_flags(link: u8, h: Parts) -> u8
-    requires { ⌜ link < 16 ⌝ }
-    ensures { λ r. ⌜ r ≡ byteOf (cuFlags link h) ⌝ }
+// The bits of the two flag bytes in their places.
+fn join_flags(link: u8, flags: CuFlags) -> Flags
+    ensures { λ r. ⌜ r ≡ cuFlagsBits link flags ⌝ }
 {
-    let f = Flags {
-        a: true,
-        b: h.id.sent,
-        c: h.dts.sent,
-        d: h.did.sent,
+    Flags {
+        bit7: flags.values,
+        bit6: flags.id,
+        bit5: flags.dts,
+        bit4: flags.did,
         low: link,
-    };
-    pack(f)
+    }
 }
 
-fn cu_second(h: Parts) -> u8
+fn join_second(second: CuSecond) -> Flags
+    ensures { λ r. ⌜ r ≡ cuSecondBits second ⌝ }
+{
+    Flags {
+        bit7: second.marker,
+        bit6: second.sequence,
+        bit5: second.timestamp,
+        bit4: second.payload,
+        low: second.count,
+    }
+}
+
+fn changes_size(carried: bool, h: Parts) -> usize
+    ensures { λ r. ⌜ (r ≡ changesSize carried h) × (r ≤ 10) ⌝ }
+{
+    let checksum = size_if(carried, 2);
+    let did = delta16_size(h.did);
+    let dts = delta32_size(h.dts);
+    let id = size_if(h.id.sent, 2);
+    checksum + did + dts + id
+}
+
+fn values_size(h: Parts) -> usize
     requires { ⌜ h .csrc .count ≤ 15 ⌝ }
-    ensures { λ r. ⌜ r ≡ byteOf (cuSecond h) ⌝ }
+    ensures { λ r. ⌜ (r ≡ valuesSize h) × (r ≤ 67) ⌝ }
 {
-    let f = Flags {
-        a: h.marker,
-        b: h.sequence.sent,
-        c: h.timestamp.sent,
-        d: h.payload.sent,
-        low: h.csrc.count,
-    };
-    pack(f)
-}
-
-fn change_size(carried: bool, h: Parts) -> usize
-    ensures { λ r. ⌜ (r ≡ changeSize carried h) × (r ≤ 10) ⌝ }
-{
-    let a = size_if(carried, 2);
-    let b = delta16_size(h.did);
-    let c = delta32_size(h.dts);
-    let d = size_if(h.id.sent, 2);
-    a + b + c + d
-}
-
-fn value_size(h: Parts) -> usize
-    requires { ⌜ h .csrc .count ≤ 15 ⌝ }
-    ensures { λ r. ⌜ (r ≡ valueSize h) × (r ≤ 67) ⌝ }
-{
-    let a = size_if(h.sequence.sent, 2);
-    let b = size_if(h.timestamp.sent, 4);
-    let c = size_if(h.payload.sent, 1);
-    let l = h.csrc;
-    a + b + c + 4 * (l.count as usize)
+    let sequence = size_if(h.sequence.sent, 2);
+    let timestamp = size_if(h.timestamp.sent, 4);
+    let payload = size_if(h.payload.sent, 1);
+    let list = h.csrc;
+    sequence + timestamp + payload + 4 * (list.count as usize)
 }
 
 // How many bytes a CU with F has before the rest of the packet.
@@ -75,39 +74,59 @@ pub fn cu_size(carried: bool, h: Parts) -> usize
     requires { ⌜ h .csrc .count ≤ 15 ⌝ }
     ensures { λ r. ⌜ (r ≡ cuSize carried h) × (r ≤ 80) ⌝ }
 {
-    3 + change_size(carried, h) + value_size(h)
+    3 + changes_size(carried, h) + values_size(h)
 }
 
-fn put_head(out: &mut [u8], at: usize, context: u8, link: u8, h: Parts) -> usize
-    requires { ⌜ (link < 16) × (h .csrc .count ≤ 15) × (at + 3 ≤ length (now out)) ⌝ }
-    ensures { λ r. ⌜ Wrote (now (out .entry)) (now (out .exit)) at r (context ∷ byteOf (cuFlags link h) ∷ byteOf (cuSecond h) ∷ []) ⌝ }
+// The context number and the flag byte, F set.
+fn put_flags(out: &mut [u8], at: usize, context: u8, link: u8, h: Parts) -> usize
+    requires { ⌜ (link < 16) × (at + 2 ≤ length (now out)) ⌝ }
+    ensures { λ r. ⌜ (r ≡ at + 2) × Wrote (now (out .entry)) (now (out .exit)) at r (headBytes context (cuFlags link h)) ⌝ }
 {
-    let f = cu_flags(link, h);
-    let g = cu_second(h);
-    let a = put8(out, at, context);
-    let b = put8(out, a, f);
-    put8(out, b, g)
+    let flags = CuFlags {
+        values: true,
+        id: h.id.sent,
+        dts: h.dts.sent,
+        did: h.did.sent,
+    };
+    let flags = join_flags(link, flags);
+    put_head(out, at, context, flags)
+}
+
+fn put_second(out: &mut [u8], at: usize, h: Parts) -> usize
+    requires { ⌜ (h .csrc .count ≤ 15) × (at + 1 ≤ length (now out)) ⌝ }
+    ensures { λ r. ⌜ (r ≡ at + 1) × Wrote (now (out .entry)) (now (out .exit)) at r (cuSecondByte h ∷ []) ⌝ }
+{
+    let second = CuSecond {
+        marker: h.marker,
+        sequence: h.sequence.sent,
+        timestamp: h.timestamp.sent,
+        payload: h.payload.sent,
+        count: h.csrc.count,
+    };
+    let flags = join_second(second);
+    let byte = pack(flags);
+    put8(out, at, byte)
 }
 
 fn put_changes(out: &mut [u8], at: usize, carried: bool, h: Parts) -> usize
-    requires { ⌜ at + changeSize carried h ≤ length (now out) ⌝ }
-    ensures { λ r. ⌜ (r ≡ at + changeSize carried h) × Wrote (now (out .entry)) (now (out .exit)) at r (changeBytes carried h) ⌝ }
+    requires { ⌜ at + changesSize carried h ≤ length (now out) ⌝ }
+    ensures { λ r. ⌜ (r ≡ at + changesSize carried h) × Wrote (now (out .entry)) (now (out .exit)) at r (changesBytes carried h) ⌝ }
 {
-    let a = put16_if(out, at, carried, h.checksum);
-    let b = put_delta16(out, a, h.did);
-    let c = put_delta32(out, b, h.dts);
-    put16_if(out, c, h.id.sent, h.id.value)
+    let at = put16_if(out, at, carried, h.checksum);
+    let at = put_delta16(out, at, h.did);
+    let at = put_delta32(out, at, h.dts);
+    put16_if(out, at, h.id.sent, h.id.value)
 }
 
 fn put_values(out: &mut [u8], at: usize, h: Parts) -> usize
-    requires { ⌜ (h .csrc .count ≤ 15) × (at + valueSize h ≤ length (now out)) ⌝ }
-    ensures { λ r. ⌜ (r ≡ at + valueSize h) × Wrote (now (out .entry)) (now (out .exit)) at r (valueBytes h) ⌝ }
+    requires { ⌜ (h .csrc .count ≤ 15) × (at + valuesSize h ≤ length (now out)) ⌝ }
+    ensures { λ r. ⌜ (r ≡ at + valuesSize h) × Wrote (now (out .entry)) (now (out .exit)) at r (valuesBytes h) ⌝ }
 {
-    let l = h.csrc;
-    let a = put16_if(out, at, h.sequence.sent, h.sequence.value);
-    let b = put32_if(out, a, h.timestamp.sent, h.timestamp.value);
-    let c = put8_if(out, b, h.payload.sent, h.payload.value);
-    put_list(out, c, l)
+    let list = h.csrc;
+    let at = put16_if(out, at, h.sequence.sent, h.sequence.value);
+    let at = put32_if(out, at, h.timestamp.sent, h.timestamp.value);
+    let at = put8_if(out, at, h.payload.sent, h.payload.value);
+    put_list(out, at, list)
 }
 
 // The bytes of a CU with F.
@@ -115,7 +134,8 @@ pub fn put_cu(out: &mut [u8], at: usize, context: u8, link: u8, carried: bool, h
     requires { ⌜ (link < 16) × (h .csrc .count ≤ 15) × (at + cuSize carried h ≤ length (now out)) ⌝ }
     ensures { λ r. ⌜ Wrote (now (out .entry)) (now (out .exit)) at r (cuBytes context link carried h) ⌝ }
 {
-    let a = put_head(out, at, context, link, h);
-    let b = put_changes(out, a, carried, h);
-    put_values(out, b, h)
+    let at = put_flags(out, at, context, link, h);
+    let at = put_second(out, at, h);
+    let at = put_changes(out, at, carried, h);
+    put_values(out, at, h)
 }

@@ -22,8 +22,8 @@ pub fn delta16_size(f: Sent16) -> usize
     ensures { λ r. ⌜ (r ≡ length (delta16 f)) × (r ≤ 3) ⌝ }
 {
     if f.sent {
-        let c = code16(f.value);
-        return code_size(c);
+        let code = code16(f.value);
+        return code_size(code);
     }
     0
 }
@@ -32,8 +32,8 @@ pub fn delta32_size(f: Sent32) -> usize
     ensures { λ r. ⌜ (r ≡ length (delta32 f)) × (r ≤ 3) ⌝ }
 {
     if f.sent {
-        let c = code32(f.value);
-        return code_size(c);
+        let code = code32(f.value);
+        return code_size(code);
     }
     0
 }
@@ -42,14 +42,14 @@ pub fn put_delta16(out: &mut [u8], at: usize, f: Sent16) -> usize
     requires { ⌜ at + length (delta16 f) ≤ length (now out) ⌝ }
     ensures { λ r. ⌜ Wrote (now (out .entry)) (now (out .exit)) at r (delta16 f) ⌝ }
 {
-    let c = code16(f.value);
-    put_code_if(out, at, f.sent, c)
+    let code = code16(f.value);
+    put_code_if(out, at, f.sent, code)
 }
 
 pub fn put_delta32(out: &mut [u8], at: usize, f: Sent32) -> usize
     requires { ⌜ at + length (delta32 f) ≤ length (now out) ⌝ }
     ensures { λ r. ⌜ Wrote (now (out .entry)) (now (out .exit)) at r (delta32 f) ⌝ }
 {
-    let c = code32(f.value);
-    put_code_if(out, at, f.sent, c)
+    let code = code32(f.value);
+    put_code_if(out, at, f.sent, code)
 }

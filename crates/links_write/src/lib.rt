@@ -6,3 +6,4 @@
 pub mod cr;
 pub mod cu;
 pub mod delta;
+pub mod head;

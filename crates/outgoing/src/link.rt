@@ -8,12 +8,12 @@ ghost use Rattle.outgoing.specs.Size.{linkSize, Writable};
 use compress::send::sends_checksum;
 use context::step::Kind;
 use context::step::Step;
+use headers_read::read::header_size;
 use links_write::cr::cr_size;
 use links_write::cr::put_cr;
 use links_write::cu::cu_size;
 use links_write::cu::put_cu;
 use packet::header::Header;
-use refresh::fh::fh_size;
 use refresh::fh::put_fh;
 
 // The number that goes with the bytes.
@@ -37,7 +37,7 @@ pub fn link_size(h: Header, a: Step) -> usize
     let parts = a.parts;
     let kind = a.kind;
     match kind {
-        Kind::FullHeader => fh_size(h),
+        Kind::FullHeader => header_size(h),
         Kind::CompressedUdp => cu_size(carried, parts),
         Kind::CompressedRtp => cr_size(carried, parts),
     }

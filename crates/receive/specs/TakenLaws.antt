@@ -15,7 +15,7 @@ use Rattle.links.specs.declared.head.ReadParts.{ReadParts}
 use Rattle.links.specs.declared.whole.ReadWhole.{ReadWhole}
 use Rattle.links.specs.Head.{headOf}
 use Rattle.links.specs.HeadLaws.{headOf-low, headOf-within}
-use Rattle.links.specs.Cu.{cuOf}
+use Rattle.links.specs.Cu.{cuFlagsOf, cuOf}
 use Rattle.links.specs.Cr.{crOf}
 use Rattle.links.specs.Whole.{wholeOf}
 use Rattle.packet.specs.Refusal as refusal
@@ -103,7 +103,7 @@ headRead t i s sound some few = record {
   few = sound-repeats t sound;
   sound = sound-contextAt t i sound;
   link = headOf-low s;
-  within = headOf-within s some;
+  within = headOf-within s;
   short = few;
 }
 
@@ -154,14 +154,14 @@ module _ (n : ℕ) (c : DecompressorContext) (x : Taken) (after s output : List 
   takes-form old.Taken h k = k
 
   module _ (form : OldForm) (h : Head) where
-    pub takes-udp : h .flags .a ≡ true → Takes n c x after (λ t i. receiveParts (cuOf s (h .place) (h .flags) (checksumRead c)) t i (h .flags .low) s output)
+    pub takes-udp : cuFlagsOf (h .flags) .values ≡ true → Takes n c x after (λ t i. receiveParts (cuOf s (h .place) (h .flags) (checksumRead c)) t i (h .flags .low) s output)
         → Takes n c x after (λ t i. receiveUdp form t i h s output)
     takes-udp g k = record {
       anywhere = λ t i e f. k .anywhere t i e f
           ∙ sym (λ j. cond (g j) (receiveParts (cuOf s (h .place) (h .flags) (checksumRead (f j))) t i (h .flags .low) s output) (receiveOld form t i h s output));
     }
 
-    pub takes-old : h .flags .a ≡ false → Takes n c x after (λ t i. receiveOld old.Taken t i h s output)
+    pub takes-old : cuFlagsOf (h .flags) .values ≡ false → Takes n c x after (λ t i. receiveOld old.Taken t i h s output)
         → Takes n c x after (λ t i. receiveUdp form t i h s output)
     takes-old g k = record {
       anywhere = λ t i e f. takes-form form h k .anywhere t i e f

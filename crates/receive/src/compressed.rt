@@ -26,6 +26,8 @@ use links::head::Head;
 use links::head::ReadParts;
 use links_read::cr::read_cr;
 use links_read::cu::read_cu;
+use links_read::cu::split_flags;
+use links_read::head::read_context;
 use links_read::head::read_head;
 use links_read::whole::read_cu_whole;
 use packet::refusal::Refusal;
@@ -76,7 +78,8 @@ fn receive_udp(
     ensures { λ r. ⌜ Takes n c r (now (out .exit)) (λ t i. receiveUdp old t i h (now (s .entry)) (now (out .entry))) ⌝ }
 {
     let f = h.flags;
-    if f.a {
+    let flags = split_flags(f);
+    if flags.values {
         let carried = reads_checksum(c);
         let x = read_cu(s, h.place, f, carried);
         return receive_parts(n, f.low, c, x, s, out);
@@ -138,14 +141,16 @@ pub fn receive_compressed(old: OldForm, kind: u32, t: Table, s: &[u8], out: &mut
     ensures { λ r. ⌜ said r (now (out .exit)) ≡ receiveCompressed old kind t (now (s .entry)) (now (out .entry)) ⌝ }
 {
     let settings = t.settings;
-    let number = s[0];
+    let first = read_context(s);
+    let field = first.field;
+    let number = field.value;
     if settings.contexts <= number {
         return Answer {
             outcome: Outcome::Refused(Refusal::NoSuchContext),
             table: t,
         };
     }
-    let h = read_head(s);
+    let h = read_head(s, first.place);
     let place = h.place;
     let found = place.verdict;
     if !is_accepted(found) {

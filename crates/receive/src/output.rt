@@ -6,6 +6,7 @@ ghost use Rattle.headers.specs.Header.{headerSize};
 ghost use Rattle.packet.specs.Ranges.{Narrow};
 ghost use Rattle.decompressor.specs.Receive.{packetOf};
 use bytes::put::put_all;
+use headers_read::read::header_size;
 use headers_write::write::put_printed;
 use packet::header::Header;
 
@@ -14,8 +15,7 @@ pub fn packet_size(h: Header, rest: &[u8]) -> usize
     requires { ⌜ (h .csrc .count ≤ 15) × (length (now rest) ≤ 1500) ⌝ }
     ensures { λ r. ⌜ (r ≡ headerSize h + length (now (rest .entry))) × (r ≡ length (packetOf h (now (rest .entry)))) ⌝ }
 {
-    let list = h.csrc;
-    40 + 4 * (list.count as usize) + rest.len()
+    header_size(h) + rest.len()
 }
 
 // The packet at the front of the output. Its size, which was judged, is what its length fields are worked out from.

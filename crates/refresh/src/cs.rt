@@ -4,18 +4,49 @@ ghost use Prim.Native.Nat.{_≤_, _<_, _+_, _*_};
 ghost use lib.ListN.{length};
 ghost use mathlib.Core.List.{[], _∷_};
 ghost use Rattle.bytes.specs.Put.{Wrote};
-ghost use Rattle.links.specs.Cs.{recordCount, recordContext, recordAsks, recordJudged, recordsJudged, requestJudged, recordBytes};
+ghost use Rattle.bytes.specs.Flags.{flagsOf, byteOf};
+ghost use Rattle.links.specs.Cs.{recordFlagsOf, recordFlagsBits, recordBytes};
+ghost use Rattle.links.specs.Cs.{recordCount, recordContext, recordAsks, recordJudged, recordsJudged, requestJudged};
 use bytes::flags::Flags;
 use bytes::flags::pack;
 use bytes::flags::split;
 use bytes::put::put8;
+use links::cs::RecordFlags;
 use packet::refusal::Refusal;
 use packet::refusal::Verdict;
 
-fn index(b: u8) -> usize
-    ensures { λ r. ⌜ (r ≡ b) × (r < 256) ⌝ }
+fn index(byte: u8) -> usize
+    ensures { λ r. ⌜ (r ≡ byte) × (r < 256) ⌝ }
 {
-    b as usize
+    byte as usize
+}
+
+// The flag byte of a record, its bits by name.
+fn split_record(byte: u8) -> RecordFlags
+    ensures { λ r. ⌜ r ≡ recordFlagsOf (flagsOf byte) ⌝ }
+{
+    let flags = split(byte);
+    RecordFlags {
+        asks: flags.bit7,
+        zero1: flags.bit6,
+        zero2: flags.bit5,
+        zero3: flags.bit4,
+        link: flags.low,
+    }
+}
+
+// The same byte packed again.
+fn pack_record(flags: RecordFlags) -> u8
+    requires { ⌜ flags .link < 16 ⌝ }
+    ensures { λ r. ⌜ r ≡ byteOf (recordFlagsBits flags) ⌝ }
+{
+    pack(Flags {
+        bit7: flags.asks,
+        bit6: flags.zero1,
+        bit5: flags.zero2,
+        bit4: flags.zero3,
+        low: flags.link,
+    })
 }
 
 // How many records a request has.
@@ -35,8 +66,8 @@ fn judge_record(contexts: u8, s: &[u8], i: usize) -> Verdict
     if contexts <= s[at] {
         return Verdict::Refused(Refusal::NoSuchContext);
     }
-    let f = split(s[at + 1]);
-    if f.b | f.c | f.d | (64 <= s[at + 2]) {
+    let flags = split_record(s[at + 1]);
+    if flags.zero1 | flags.zero2 | flags.zero3 | (s[at + 2] >> 6 != 0) {
         return Verdict::Refused(Refusal::Forbidden);
     }
     Verdict::Accepted
@@ -89,8 +120,8 @@ pub fn record_asks(s: &[u8], i: usize) -> bool
     requires { ⌜ 2 + 3 * i + 3 ≤ length (now s) ⌝ }
     ensures { λ r. ⌜ r ≡ recordAsks (now (s .entry)) i ⌝ }
 {
-    let f = split(s[2 + 3 * i + 1]);
-    f.a
+    let flags = split_record(s[2 + 3 * i + 1]);
+    flags.asks
 }
 
 // Type code and count, which stand before the records.
@@ -98,8 +129,8 @@ pub fn put_count(out: &mut [u8], at: usize, count: u8) -> usize
     requires { ⌜ at + 2 ≤ length (now out) ⌝ }
     ensures { λ r. ⌜ (r ≡ at + 2) × Wrote (now (out .entry)) (now (out .exit)) at r (1 ∷ count ∷ []) ⌝ }
 {
-    let a = put8(out, at, 1);
-    put8(out, a, count)
+    let at = put8(out, at, 1);
+    put8(out, at, count)
 }
 
 // The record of one context.
@@ -107,14 +138,14 @@ pub fn put_record(out: &mut [u8], at: usize, context: u8, link: u8, generation: 
     requires { ⌜ (link < 16) × (at + 3 ≤ length (now out)) ⌝ }
     ensures { λ r. ⌜ (r ≡ at + 3) × Wrote (now (out .entry)) (now (out .exit)) at r (recordBytes context link generation) ⌝ }
 {
-    let f = pack(Flags {
-        a: true,
-        b: false,
-        c: false,
-        d: false,
-        low: link,
+    let flags = pack_record(RecordFlags {
+        asks: true,
+        zero1: false,
+        zero2: false,
+        zero3: false,
+        link: link,
     });
-    let a = put8(out, at, context);
-    let b = put8(out, a, f);
-    put8(out, b, generation)
+    let at = put8(out, at, context);
+    let at = put8(out, at, flags);
+    put8(out, at, generation)
 }

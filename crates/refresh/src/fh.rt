@@ -1,16 +1,17 @@
 ghost use mathlib.Core.Path.{_≡_};
-ghost use Prim.Native.Nat.{_≤_, _<_, _+_, _*_, _%_};
+ghost use Prim.Native.Nat.{_≤_, _<_, _+_};
 ghost use lib.ListN.{length};
-ghost use Rattle.headers.specs.Header.{countAt, headerSize};
+ghost use Rattle.headers.specs.Header.{countAt, sizeWith, headerSize};
 ghost use Rattle.bytes.specs.Put.{Wrote};
 ghost use Rattle.packet.specs.Ranges.{Narrow};
 ghost use Rattle.links.specs.Fh.{fieldsForm, fhJudged, fhOf, ipField, fhBytes};
-use bytes::flags::split;
 use headers_read::form::fixed_form;
 use headers_read::form::ip_checksum_of;
 use headers_read::place::count_at;
 use headers_read::place::word_at;
+use headers_read::read::header_size;
 use headers_read::read::read_header;
+use headers_read::read::size_with;
 use headers_write::checksum::ip_checksum;
 use headers_write::write::put_header;
 use links::fh::FullHeader;
@@ -31,63 +32,47 @@ pub fn judge_fh(contexts: u8, s: &[u8]) -> Verdict
     requires { ⌜ length (now s) < 65536 ⌝ }
     ensures { λ r. ⌜ r ≡ fhJudged contexts (now (s .entry)) ⌝ }
 {
-    let n = s.len();
-    if n < 40 {
+    let size = s.len();
+    if size < 40 {
         return Verdict::Refused(Refusal::Cut);
     }
     if contexts <= s[3] {
         return Verdict::Refused(Refusal::NoSuchContext);
     }
-    let right = word_at(s, 10) == ip_checksum_of(s, n as u16);
+    let right = word_at(s, 10) == ip_checksum_of(s, size as u16);
     if !(fixed_form(s) & fields_form(s) & right) {
         return Verdict::Refused(Refusal::Forbidden);
     }
-    if n < 40 + 4 * count_at(s, 28) {
+    if size < size_with(count_at(s, 28)) {
         return Verdict::Refused(Refusal::Cut);
     }
     Verdict::Accepted
 }
 
-// The six bits below a byte's top two.
-fn low_six(b: u8) -> u8
-    ensures { λ r. ⌜ r ≡ b % 64 ⌝ }
-{
-    b & 63
-}
-
 // What a full header says that was judged good.
 pub fn read_fh(s: &[u8]) -> FullHeader
-    requires { ⌜ 40 + 4 * countAt (now s) 28 ≤ length (now s) ⌝ }
+    requires { ⌜ sizeWith (countAt (now s) 28) ≤ length (now s) ⌝ }
     ensures { λ r. ⌜ r ≡ fhOf (now (s .entry)) ⌝ }
 {
     let header = read_header(s);
-    let generation = low_six(s[2]);
-    let f = split(s[25]);
-    let count = count_at(s, 28);
+    let start = header_size(header);
     FullHeader {
         header: header,
         context: s[3],
-        generation: generation,
-        link: f.low,
-        start: 40 + 4 * count,
+        generation: s[2] & 63,
+        link: s[25] & 15,
+        start: start,
     }
 }
 
-// How many bytes a full header has before the rest of the packet.
-pub fn fh_size(h: Header) -> usize
-    requires { ⌜ h .csrc .count ≤ 15 ⌝ }
-    ensures { λ r. ⌜ (r ≡ headerSize h) × (r ≤ 100) ⌝ }
-{
-    let l = h.csrc;
-    40 + 4 * (l.count as usize)
-}
-
-// What stands in the IP length's place.
+// What stands in the IP length's place: 0, 1, six bits of generation, eight of context number.
 fn ip_field(context: u8, generation: u8) -> u16
     requires { ⌜ generation < 64 ⌝ }
     ensures { λ r. ⌜ r ≡ ipField context generation ⌝ }
 {
-    (64 + (generation as u16)) * 256 + (context as u16)
+    let generation = generation as u16;
+    let context = context as u16;
+    (1 << 14) | (generation << 8) | context
 }
 
 // The bytes of a full header, total being the length of its packet.
@@ -101,7 +86,8 @@ pub fn put_fh(
     h: Header,
 ) -> usize
     requires { ⌜ Narrow h × (generation < 64) × (at + headerSize h ≤ length (now out)) ⌝ }
-    ensures { λ r. ⌜ (r ≡ at + headerSize h) × Wrote (now (out .entry)) (now (out .exit)) at r (fhBytes context generation link total h) ⌝ }
+    ensures { λ r. ⌜ (r ≡ at + headerSize h)
+        × Wrote (now (out .entry)) (now (out .exit)) at r (fhBytes context generation link total h) ⌝ }
 {
     let field = ip_field(context, generation);
     let checksum = ip_checksum(h, total);

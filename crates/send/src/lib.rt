@@ -16,6 +16,7 @@ use compressor::lookup::find;
 use compressor::table::Table;
 use compressor::table::sound;
 use headers_read::form::is_compressible;
+use headers_read::read::header_size;
 use headers_read::read::read_header;
 use outgoing::link::kind_number;
 use outgoing::link::link_size;
@@ -23,7 +24,6 @@ use outgoing::link::put_link;
 use outgoing::step::step_on;
 use packet::header::Header;
 use packet::refusal::Refusal;
-use refresh::fh::fh_size;
 use settings::Settings;
 
 // A packet that goes out as it is.
@@ -50,7 +50,7 @@ fn send_on(t: Table, i: usize, p: &[u8], h: Header, out: &mut [u8]) -> Answer
 {
     let c = t.contexts[i];
     let a = step_on(t.settings.repeats, h, c);
-    let start = fh_size(h);
+    let start = header_size(h);
     let tail = &p[start..];
     let size = link_size(h, a) + tail.len();
     if out.len() < size {

@@ -14,8 +14,8 @@ element-copy-out-c c = search needs
 step-on-requires : tie.Need-step-on-requires
 step-on-requires c κs = search needs
 
-fh-size-requires : tie.Need-fh-size-requires
-fh-size-requires c κs = search needs
+header-size-requires : tie.Need-header-size-requires
+header-size-requires c κs = search needs
 
 sub-tail : tie.Need-sub-tail
 sub-tail c = search needs
@@ -36,10 +36,10 @@ returns : tie.Need-returns
 returns c = let s = c .before .before .before .before .before .before .before .before in
     let a = s .args in
     let x = c .before .before .before .before .step-on in
-    let f = c .before .before .before .fh-size in
+    let f = c .before .before .before .header-size in
     let l = c .before .link-size in
     sendWith-refused (a .t1) (a .i) (a .p .now) (a .out .now) (a .h) (x .result) (rw (x .ensures) (s .pre .writable))
-    (l .result) (f .result) (l .ensures .0) (f .ensures .0) (x .ensures) (omega (arith, length-rest (a .p .now) (f .result), c .if1 .taken))
+    (l .result) (f .result) (l .ensures .0) (f .ensures) (x .ensures) (omega (arith, length-rest (a .p .now) (f .result), c .if1 .taken))
 
 cast-put-link : tie.Need-cast-put-link
 cast-put-link c = search needs
@@ -56,10 +56,10 @@ put-all-requires : tie.Need-put-all-requires
 put-all-requires c κs = let s = c .before .before .before .before .before .before .before .before .before .before .before .before .before in
     let a = s .args in
     let x = c .before .before .before .before .before .before .before .before .before .step-on in
-    let f = c .before .before .before .before .before .before .before .before .fh-size in
+    let f = c .before .before .before .before .before .before .before .before .header-size in
     let l = c .before .before .before .before .before .before .link-size in
     let w = past-link (a .t1) (a .i) (a .p .now) (a .out .now) (a .h) (x .result) (rw (x .ensures) (s .pre .writable))
-    (l .result) (f .result) (l .ensures .0) (f .ensures .0) (c .before .before .before .put-link .ensures) in
+    (l .result) (f .result) (l .ensures .0) (f .ensures) (c .before .before .before .put-link .ensures) in
     omega (arith, length-rest (a .p .now) (f .result), c .before .before .before .before .before .if1 .left, w)
 
 mul-after : tie.Need-mul-after
@@ -78,10 +78,10 @@ returns-2 : tie.Need-returns-2
 returns-2 c = let s = c .before .before .before .before .before .before .before .before .before .before .before .before .before .before .before .before .before .before in
     let a = s .args in
     let x = c .before .before .before .before .before .before .before .before .before .before .before .before .before .before .step-on in
-    let f = c .before .before .before .before .before .before .before .before .before .before .before .before .before .fh-size in
+    let f = c .before .before .before .before .before .before .before .before .before .before .before .before .before .header-size in
     let l = c .before .before .before .before .before .before .before .before .before .before .before .link-size in
     sendWith-written (a .t1) (a .i) (a .p .now) (a .out .now) (a .h) (x .result) (rw (x .ensures) (s .pre .writable))
-    (l .result) (f .result) (l .ensures .0) (f .ensures .0) (x .ensures) (c .kind-number .result) (c .kind-number .ensures)
+    (l .result) (f .result) (l .ensures .0) (f .ensures) (x .ensures) (c .kind-number .result) (c .kind-number .ensures)
     (omega (arith, length-rest (a .p .now) (f .result), c .before .before .before .before .before .before .before .before .before .before .if1 .left))
     (c .before .before .before .before .before .before .before .before .put-link .ensures) (c .before .before .before .before .put-all .ensures)
 
@@ -92,7 +92,7 @@ send-on-spec =
     mul-c
     element-copy-out-c
     step-on-requires
-    fh-size-requires
+    header-size-requires
     sub-tail
     part-tail-start
     part-tail-end

@@ -9,19 +9,21 @@ use Rattle.bytes.proofs.flags.shifted.Tie as tie
 returns : tie.Need-returns
 returns c =
     let a = c .args in
-    let m7 : a .a * 128 % 256 ≡ a .a * 128 = omega arith in
-    let s6 : a .b * 64 % 256 ≡ a .b * 64 = omega arith in
-    let t5 : a .c * 32 % 256 ≡ a .c * 32 = omega arith in
-    let i4 : a .d * 16 % 256 ≡ a .d * 16 = omega arith in
+    let place7 : a .bit7 * 128 % 256 ≡ a .bit7 * 128 = omega arith in
+    let place6 : a .bit6 * 64 % 256 ≡ a .bit6 * 64 = omega arith in
+    let place5 : a .bit5 * 32 % 256 ≡ a .bit5 * 32 = omega arith in
+    let place4 : a .bit4 * 16 % 256 ≡ a .bit4 * 16 = omega arith in
     rw (
-      m7,
-      s6,
-      t5,
-      i4,
-      or-place (a .a * 128) (a .a) 7 (a .b * 64) refl (omega arith),
-      or-place (a .a * 128 + a .b * 64) (a .a * 2 + a .b) 6 (a .c * 32) (omega arith) (omega arith),
-      or-place (a .a * 128 + a .b * 64 + a .c * 32) (a .a * 4 + a .b * 2 + a .c) 5 (a .d * 16) (omega arith) (omega arith),
-      or-place (a .a * 128 + a .b * 64 + a .c * 32 + a .d * 16) (a .a * 8 + a .b * 4 + a .c * 2 + a .d) 4 (a .low) (omega arith) (omega arith),
+      place7,
+      place6,
+      place5,
+      place4,
+      or-place (a .bit7 * 128) (a .bit7) 7 (a .bit6 * 64) refl (omega arith),
+      or-place (a .bit7 * 128 + a .bit6 * 64) (a .bit7 * 2 + a .bit6) 6 (a .bit5 * 32) (omega arith) (omega arith),
+      or-place (a .bit7 * 128 + a .bit6 * 64 + a .bit5 * 32) (a .bit7 * 4 + a .bit6 * 2 + a .bit5) 5 (a .bit4 * 16) (omega arith)
+          (omega arith),
+      or-place (a .bit7 * 128 + a .bit6 * 64 + a .bit5 * 32 + a .bit4 * 16) (a .bit7 * 8 + a .bit6 * 4 + a .bit5 * 2 + a .bit4) 4
+          (a .low) (omega arith) (omega arith),
     )
 
 pub shifted-spec : {M : Type 1} → statement M

@@ -37,12 +37,17 @@ loop-less c = omega arith
 
 loop-again : tie.Need-loop-again Inv-loop μ-loop
 loop-again c =
-    let a = c .before .before .before .args in
+    let b3 = c .before .before .before in
+    let a = b3 .args in
     let l = c .before .before .loop in
     let n = length-take-le (l .i) (now (a .s)) (omega arith) in (
       omega arith,
       simp length-set (l .inv .1),
-      rw (l .inv .2, take-one (now (a .s)) (l .i) (omega arith)) (sets-then (take (l .i) (now (a .s))) (getD (now (a .s)) (l .i) 0 ∷ []) _ _ _ (omega arith)),
+      rw (
+        l .inv .2,
+        take-one (now (a .s)) (l .i) (omega arith),
+      )
+          (sets-then (take (l .i) (now (a .s))) (getD (now (a .s)) (l .i) 0 ∷ []) _ _ _ (omega arith)),
     )
 
 add-result : tie.Need-add-result Inv-loop μ-loop

@@ -3,8 +3,8 @@ use borrow.Author.Needs.{needs}
 use Rattle.bytes.proofs.sum.add.Statement.{statement}
 use Rattle.bytes.proofs.sum.add.Tie as tie
 
-add-t : tie.Need-add-t
-add-t c = search needs
+add-total : tie.Need-add-total
+add-total c = search needs
 
 add-result : tie.Need-add-result
 add-result c = search needs
@@ -17,4 +17,4 @@ unfolding plus
 returns c = search needs
 
 pub add-spec : {M : Type 1} → statement M
-add-spec = tie.close (tie.spec add-t add-result cast-result returns)
+add-spec = tie.close (tie.spec add-total add-result cast-result returns)

@@ -56,9 +56,13 @@ add-requires-2 : tie.Need-add-requires-2 Inv-loop μ-loop
 add-requires-2 c κs = search needs
 
 returns : tie.Need-returns Inv-loop μ-loop
-returns c = let a = c .before .before .before .before .before .before .before .args in
-    let l = c .before .before .before .before .before .loop in
-    rw (c .add2 .ensures) (sym (l .inv .1 ∙ rw (wordsOf-odd (a .part .now) (l .i) (c .before .be162 .result) (omega arith) (omega arith))))
+returns c =
+    let b5 = c .before .before .before .before .before in
+    let b7 = b5 .before .before in
+    let a = b7 .args in
+    let l = b5 .loop in
+    rw (c .add2 .ensures)
+    (sym (l .inv .1 ∙ rw (wordsOf-odd (a .part .now) (l .i) (c .before .be162 .result) (omega arith) (omega arith))))
 
 returns-2 : tie.Need-returns-2 Inv-loop μ-loop
 returns-2 c = let a = c .before .before .before .before .args in

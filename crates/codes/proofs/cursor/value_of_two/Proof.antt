@@ -15,8 +15,8 @@ cast-t5 c = search needs
 returns : tie.Need-returns
 returns c = λ m wide.
     let a = c .before .args in
-    let e : m - (0x8080 - a .c) ≡ m - 128 + (a .c - 0x8000) = omega arith in
-    rw (e, valueIn-near m (a .c) (a .past .at) (omega arith) (omega arith))
+    let e : m - (0x8080 - a .code) ≡ m - 128 + (a .code - 0x8000) = omega arith in
+    rw (e, valueIn-near m (a .code) (a .past .at) (omega arith) (omega arith))
 
 sub-t6 : tie.Need-sub-t6
 sub-t6 c = search needs
@@ -24,8 +24,8 @@ sub-t6 c = search needs
 returns-2 : tie.Need-returns-2
 returns-2 c = λ m wide.
     let a = c .before .args in
-    let e : a .c - 0x8000 ≡ 128 + (a .c - 0x8080) = omega arith in
-    rw (valueIn-middle m (a .c) (a .past .at) (omega arith) (omega arith), e)
+    let e : a .code - 0x8000 ≡ 128 + (a .code - 0x8080) = omega arith in
+    rw (valueIn-middle m (a .code) (a .past .at) (omega arith) (omega arith), e)
 
 pub value-of-two-spec : {M : Type 1} → statement M
 value-of-two-spec = tie.close (tie.spec sub-t4 cast-t5 returns sub-t6 returns-2)

@@ -10,7 +10,8 @@ use Rattle.fields.proofs.list.next_list.Tie as tie
 
 abbrev Inv-loop : tie.InvT-loop
 Inv-loop s n words₀ at₀ i₀ words at i =
-    (n < 16) × (i ≤ n) × (length words ≡ 15) × (record { place = at; list = record { count = i; words = words } } ≡ nextList s at₀ i)
+    (n < 16) × (i ≤ n) × (length words ≡ 15)
+    × (record { place = at; list = record { count = i; words = words } } ≡ nextList s at₀ i)
 
 abbrev μ-loop : tie.MeasureT-loop
 μ-loop s n words₀ at₀ i₀ words at i = n - i

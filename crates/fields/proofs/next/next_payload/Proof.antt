@@ -1,5 +1,6 @@
 use Rattle.fields.specs.Next.{nextPayload, readPayload, next}
 use borrow.Author.Tests.{lt-ltb, le-ltb}
+use native.Mathlib.Omega.{arith}
 use borrow.Author.Needs.{needs}
 use Rattle.fields.proofs.next.next_payload.Statement.{statement}
 use Rattle.fields.proofs.next.next_payload.Tie as tie
@@ -18,7 +19,7 @@ there8-requires c κs = search needs
 
 returns : tie.Need-returns
 unfolding nextPayload readPayload next
-returns c = rw (c .there8 .ensures, ← c .before .before .before .before .before .before .before .is-accepted .ensures, c .before .before .before .before .before .before .if1 .taken, ← c .before .before .before .before .before .byte .ensures, c .before .before .before .v .given .1, lt-ltb _ 128 (c .before .if2 .taken))
+returns c = rw (c .there8 .ensures, ← c .before .before .before .before .before .before .before .is-accepted .ensures, c .before .before .before .before .before .before .if1 .taken, ← c .before .before .before .before .before .byte .ensures, c .before .before .before .v .given .1, lt-ltb (c .before .before .before .v .given .0 .0) 128 (omega (arith, c .before .if2 .taken)))
 
 stop-requires : tie.Need-stop-requires
 stop-requires c κs = search needs
@@ -40,7 +41,7 @@ none8-requires-3 c κs = search needs
 
 returns-2 : tie.Need-returns-2
 unfolding nextPayload readPayload next
-returns-2 c = rw (c .none8 .ensures, c .before .stop .ensures, ← c .before .before .before .before .before .before .before .before .is-accepted .ensures, c .before .before .before .before .before .before .before .if1 .taken, ← c .before .before .before .before .before .before .byte .ensures, c .before .before .before .before .v .given .1, le-ltb _ 128 (c .before .before .if2 .left))
+returns-2 c = rw (c .none8 .ensures, c .before .stop .ensures, ← c .before .before .before .before .before .before .before .before .is-accepted .ensures, c .before .before .before .before .before .before .before .if1 .taken, ← c .before .before .before .before .before .before .byte .ensures, c .before .before .before .before .v .given .1, le-ltb (c .before .before .before .before .v .given .0 .0) 128 (omega (arith, c .before .before .if2 .left)))
 
 returns-3 : tie.Need-returns-3
 unfolding nextPayload readPayload next

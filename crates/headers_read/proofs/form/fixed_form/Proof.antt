@@ -19,7 +19,10 @@ shared-slice-read-result-3 c = search needs
 
 returns : tie.Need-returns
 unfolding fixedForm
-returns c = let a = c .before .before .before .before .before .args in rw (c .before .before .before .word-at .ensures, and-mask (wordAt (a .p .now) 6) 14)
+returns c =
+    let b3 = c .before .before .before in
+    let b5 = b3 .before .before in
+    let a = b5 .args in rw (b3 .word-at .ensures, and-mask (wordAt (a .p .now) 6) 14)
 
 pub fixed-form-spec : {M : Type 1} → statement M
 fixed-form-spec =

@@ -48,8 +48,12 @@ sub-result : tie.Need-sub-result
 sub-result c = search needs
 
 returns : tie.Need-returns
-returns c = let a = c .before .before .before .before .before .before .before .before .args in
-    rw (c .sum3 .ensures, c .before .before .sum2 .ensures, c .before .before .before .before .add .ensures, c .before .before .before .before .before .sum .ensures)
+returns c =
+    let b4 = c .before .before .before .before in
+    let b5 = b4 .before in
+    let b8 = b5 .before .before .before in
+    let a = b8 .args in
+    rw (c .sum3 .ensures, c .before .before .sum2 .ensures, b4 .add .ensures, b5 .sum .ensures)
     (sym (ipChecksumOf-parts (a .p .now) (a .total) (omega arith)))
 
 pub ip-checksum-of-spec : {M : Type 1} → statement M

@@ -53,8 +53,24 @@ word-at-requires-4 c κs = search needs
 
 returns-2 : tie.Need-returns-2
 unfolding compressible
-returns-2 c = let a = c .before .before .before .before .before .before .before .before .before .args in
-    rw (le-leb 40 (length (a .p .now)) (omega arith), c .word-at4 .ensures, c .before .word-at3 .ensures, c .before .before .fixed-form .ensures, c .before .before .before .count-at .ensures .0, c .before .before .before .before .ip-checksum-of .ensures, c .before .before .before .before .before .word-at2 .ensures, c .before .before .before .before .before .before .word-at .ensures, and-mask (wordAt (a .p .now) 22) 1)
+returns-2 c =
+    let b3 = c .before .before .before in
+    let b4 = b3 .before in
+    let b5 = b4 .before in
+    let b6 = b5 .before in
+    let b9 = b6 .before .before .before in
+    let a = b9 .args in
+    rw (
+      le-leb 40 (length (a .p .now)) (omega arith),
+      c .word-at4 .ensures,
+      c .before .word-at3 .ensures,
+      c .before .before .fixed-form .ensures,
+      b3 .count-at .ensures .0,
+      b4 .ip-checksum-of .ensures,
+      b5 .word-at2 .ensures,
+      b6 .word-at .ensures,
+      and-mask (wordAt (a .p .now) 22) 1,
+    )
 
 pub is-compressible-spec : {M : Type 1} → statement M
 is-compressible-spec =

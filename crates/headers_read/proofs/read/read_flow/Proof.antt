@@ -20,7 +20,16 @@ long-at-requires-3 c κs = search needs
 
 returns : tie.Need-returns
 unfolding flowOf
-returns c = rw (c .long-at3 .ensures, c .before .word-at2 .ensures, c .before .before .word-at .ensures, c .before .before .before .long-at2 .ensures, c .before .before .before .before .long-at .ensures)
+returns c =
+    let b3 = c .before .before .before in
+    let b4 = b3 .before in
+    rw (
+      c .long-at3 .ensures,
+      c .before .word-at2 .ensures,
+      c .before .before .word-at .ensures,
+      b3 .long-at2 .ensures,
+      b4 .long-at .ensures,
+    )
 
 pub read-flow-spec : {M : Type 1} → statement M
 read-flow-spec =

@@ -17,7 +17,11 @@ word-at-requires c κs = search needs
 
 returns : tie.Need-returns
 unfolding headerOf
-returns c = rw (c .word-at .ensures, c .before .before .before .read-rtp .ensures, c .before .before .before .before .read-ip .ensures, c .before .before .before .before .before .read-flow .ensures)
+returns c =
+    let b3 = c .before .before .before in
+    let b4 = b3 .before in
+    let b5 = b4 .before in
+    rw (c .word-at .ensures, b3 .read-rtp .ensures, b4 .read-ip .ensures, b5 .read-flow .ensures)
 
 pub read-header-spec : {M : Type 1} → statement M
 read-header-spec =

@@ -41,9 +41,18 @@ loop-less : tie.Need-loop-less Inv-loop μ-loop
 loop-less c = search needs
 
 loop-again : tie.Need-loop-again Inv-loop μ-loop
-loop-again c = let a = c .before .before .before .before .args in
-    let l = c .before .before .loop in
-    (omega arith, simp length-set (l .inv .1), rw (c .long-at .ensures, l .inv .2) (set-listAt (a .s .now) (a .at) (l .i) (omega arith)))
+loop-again c =
+    let b4 = c .before .before .before .before in
+    let a = b4 .args in
+    let l = c .before .before .loop in (
+      omega arith,
+      simp length-set (l .inv .1),
+      rw (
+        c .long-at .ensures,
+        l .inv .2,
+      )
+          (set-listAt (a .s .now) (a .at) (l .i) (omega arith)),
+    )
 
 returns : tie.Need-returns Inv-loop μ-loop
 returns c = let a = c .before .before .before .args in

@@ -1,31 +1,32 @@
 use Rattle.headers.specs.Header.{rtpAt}
-use Rattle.bytes.specs.declared.flags.Flags.{Flags}
-use Rattle.codes.specs.Reading.{byteAt}
-use lib.Bits.{and-mask}
+use Rattle.headers.specs.declared.rtp.RtpFirst.{RtpFirst}
 use native.Mathlib.Omega.{arith}
-use Prim.Native.Nat.{_+_, _/_}
 use mathlib.Core.Path.{ap}
 use borrow.Author.Needs.{needs}
 use Rattle.headers_read.proofs.read.read_rtp.Statement.{statement}
 use Rattle.headers_read.proofs.read.read_rtp.Tie as tie
 
-shared-slice-read-split : tie.Need-shared-slice-read-split
-shared-slice-read-split c = search needs
+shared-slice-read-split-first : tie.Need-shared-slice-read-split-first
+shared-slice-read-split-first c = search needs
 
-split-requires : tie.Need-split-requires
-split-requires c κs = search needs
+split-first-requires : tie.Need-split-first-requires
+split-first-requires c κs = search needs
 
-add-second : tie.Need-add-second
-add-second c = search needs
+add-split-second : tie.Need-add-split-second
+add-split-second c = search needs
 
-shared-slice-read-second : tie.Need-shared-slice-read-second
-shared-slice-read-second c = search needs
+shared-slice-read-split-second : tie.Need-shared-slice-read-split-second
+shared-slice-read-split-second c = search needs
+
+split-second-requires : tie.Need-split-second-requires
+split-second-requires c κs = search needs
 
 add-read-list : tie.Need-add-read-list
 add-read-list c = search needs
 
 read-list-requires : tie.Need-read-list-requires
-read-list-requires c κs = let e = ap (λ (f : Flags). f .low) (c .before .split .ensures .0) in (omega arith, omega arith)
+read-list-requires c κs =
+    let e = ap (λ (f : RtpFirst). f .count) (c .before .before .split-first .ensures .0) in (omega arith, omega arith)
 
 add-long-at : tie.Need-add-long-at
 add-long-at c = search needs
@@ -47,17 +48,25 @@ long-at-requires-2 c κs = search needs
 
 returns : tie.Need-returns
 unfolding rtpAt
-returns c = let a = c .before .before .before .before .before .before .before .before .args in
-    rw (c .long-at2 .ensures, c .before .word-at .ensures, c .before .before .long-at .ensures, c .before .before .before .read-list .ensures, c .before .before .before .before .before .split .ensures .0, and-mask (byteAt (a .s .now) (a .at + 1) / 128) 1, and-mask (byteAt (a .s .now) (a .at + 1)) 7)
+returns c =
+    rw (
+      c .long-at2 .ensures,
+      c .before .word-at .ensures,
+      c .before .before .long-at .ensures,
+      c .before .before .before .read-list .ensures,
+      c .before .before .before .before .split-second .ensures,
+      c .before .before .before .before .before .before .split-first .ensures .0,
+    )
 
 pub read-rtp-spec : {M : Type 1} → statement M
 read-rtp-spec =
     tie.close
     (tie.spec
-    shared-slice-read-split
-    split-requires
-    add-second
-    shared-slice-read-second
+    shared-slice-read-split-first
+    split-first-requires
+    add-split-second
+    shared-slice-read-split-second
+    split-second-requires
     add-read-list
     read-list-requires
     add-long-at

@@ -36,7 +36,19 @@ add-requires-5 : tie.Need-add-requires-5
 add-requires-5 c κs = search needs
 
 returns : tie.Need-returns
-returns c = rw (c .add5 .ensures, c .before .before .add4 .ensures, c .before .before .before .add3 .ensures, c .before .before .before .before .add2 .ensures, c .before .before .before .before .before .add .ensures, c .before .before .before .before .before .before .before .fragment-word .ensures)
+returns c =
+    let b3 = c .before .before .before in
+    let b4 = b3 .before in
+    let b5 = b4 .before in
+    let b7 = b5 .before .before in
+    rw (
+      c .add5 .ensures,
+      c .before .before .add4 .ensures,
+      b3 .add3 .ensures,
+      b4 .add2 .ensures,
+      b5 .add .ensures,
+      b7 .fragment-word .ensures,
+    )
 
 pub sum-front-spec : {M : Type 1} → statement M
 sum-front-spec =

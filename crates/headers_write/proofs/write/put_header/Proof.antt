@@ -25,7 +25,17 @@ same-length c = search needs
 
 returns : tie.Need-returns
 unfolding headerBytes
-returns c = (omega arith, wrote-then (c .before .before .before .before .before .before .before .before .before .before .before .before .before .before .before .before .before .before .put-ip-front .ensures .1) (wrote-then (c .before .before .before .before .before .before .before .before .before .before .before .before .before .before .put-ip-back .ensures .1) (wrote-then (c .before .before .before .before .before .before .before .before .before .before .put-udp .ensures .1) (wrote-then (c .before .before .before .before .before .before .put-rtp .ensures .1) (c .before .before .put-list .ensures .1)))))
+returns c = (
+  omega arith,
+  let b6 = c .before .before .before .before .before .before in
+      let b10 = b6 .before .before .before .before in
+      let b14 = b10 .before .before .before .before in
+      let b18 = b14 .before .before .before .before in
+      wrote-then (b18 .put-ip-front .ensures .1) (
+      wrote-then (b14 .put-ip-back .ensures .1) (
+      wrote-then (b10 .put-udp .ensures .1) (
+      wrote-then (b6 .put-rtp .ensures .1) (c .before .before .put-list .ensures .1)))),
+)
 
 pub put-header-spec : {M : Type 1} → statement M
 put-header-spec =

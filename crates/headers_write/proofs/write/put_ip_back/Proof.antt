@@ -25,7 +25,17 @@ same-length c = search needs
 
 returns : tie.Need-returns
 unfolding ipBack
-returns c = (omega arith, wrote-then (c .before .before .before .before .before .before .before .before .before .before .before .before .before .before .before .before .before .before .put8 .ensures) (wrote-then (c .before .before .before .before .before .before .before .before .before .before .before .before .before .before .put82 .ensures) (wrote-then (c .before .before .before .before .before .before .before .before .before .before .put16 .ensures) (wrote-then (c .before .before .before .before .before .before .put32 .ensures) (c .before .before .put322 .ensures)))))
+returns c = (
+  omega arith,
+  let b6 = c .before .before .before .before .before .before in
+      let b10 = b6 .before .before .before .before in
+      let b14 = b10 .before .before .before .before in
+      let b18 = b14 .before .before .before .before in
+      wrote-then (b18 .put8 .ensures) (
+      wrote-then (b14 .put82 .ensures) (
+      wrote-then (b10 .put16 .ensures) (
+      wrote-then (b6 .put32 .ensures) (c .before .before .put322 .ensures)))),
+)
 
 pub put-ip-back-spec : {M : Type 1} → statement M
 put-ip-back-spec =

@@ -28,7 +28,18 @@ same-length c = search needs
 
 returns : tie.Need-returns
 unfolding ipFront
-returns c = (omega arith, wrote-then (c .before .before .before .before .before .before .before .before .before .before .before .before .before .before .before .before .before .before .put8 .ensures) (wrote-then (c .before .before .before .before .before .before .before .before .before .before .before .before .before .before .put82 .ensures) (wrote-then (c .before .before .before .before .before .before .before .before .before .before .put16 .ensures) (wrote-then (c .before .before .before .before .before .before .put162 .ensures) (rw (c .before .before .before .before .before .before .before .before .before .before .before .before .before .before .before .before .before .before .before .before .fragment-word .ensures) at (c .before .before .put163 .ensures))))))
+returns c = (
+  omega arith,
+  let b6 = c .before .before .before .before .before .before in
+      let b10 = b6 .before .before .before .before in
+      let b14 = b10 .before .before .before .before in
+      let b18 = b14 .before .before .before .before in
+      let b20 = b18 .before .before in
+      wrote-then (b18 .put8 .ensures) (
+      wrote-then (b14 .put82 .ensures) (
+      wrote-then (b10 .put16 .ensures) (
+      wrote-then (b6 .put162 .ensures) (rw (b20 .fragment-word .ensures) at (c .before .before .put163 .ensures))))),
+)
 
 pub put-ip-front-spec : {M : Type 1} → statement M
 put-ip-front-spec =

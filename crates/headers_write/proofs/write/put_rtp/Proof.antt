@@ -5,11 +5,11 @@ use borrow.Author.Needs.{needs}
 use Rattle.headers_write.proofs.write.put_rtp.Statement.{statement}
 use Rattle.headers_write.proofs.write.put_rtp.Tie as tie
 
-first-byte-requires : tie.Need-first-byte-requires
-first-byte-requires c κs = search needs
+pack-first-requires : tie.Need-pack-first-requires
+pack-first-requires c κs = search needs
 
-second-byte-requires : tie.Need-second-byte-requires
-second-byte-requires c κs = search needs
+pack-second-requires : tie.Need-pack-second-requires
+pack-second-requires c κs = search needs
 
 put8-requires : tie.Need-put8-requires
 put8-requires c κs = search needs
@@ -31,14 +31,26 @@ same-length c = search needs
 
 returns : tie.Need-returns
 unfolding rtpFixed
-returns c = (omega arith, wrote-then (rw (c .before .before .before .before .before .before .before .before .before .before .before .before .before .before .before .before .before .before .before .before .before .first-byte .ensures) at (c .before .before .before .before .before .before .before .before .before .before .before .before .before .before .before .before .before .before .put8 .ensures)) (wrote-then (rw (c .before .before .before .before .before .before .before .before .before .before .before .before .before .before .before .before .before .before .before .before .second-byte .ensures) at (c .before .before .before .before .before .before .before .before .before .before .before .before .before .before .put82 .ensures)) (wrote-then (c .before .before .before .before .before .before .before .before .before .before .put16 .ensures) (wrote-then (c .before .before .before .before .before .before .put32 .ensures) (c .before .before .put322 .ensures)))))
+returns c = (
+  omega arith,
+  let b6 = c .before .before .before .before .before .before in
+      let b10 = b6 .before .before .before .before in
+      let b14 = b10 .before .before .before .before in
+      let b18 = b14 .before .before .before .before in
+      let b20 = b18 .before .before in
+      let b21 = b20 .before in
+      wrote-then (rw (b21 .pack-first .ensures) at (b18 .put8 .ensures)) (
+      wrote-then (rw (b20 .pack-second .ensures) at (b14 .put82 .ensures)) (
+      wrote-then (b10 .put16 .ensures) (
+      wrote-then (b6 .put32 .ensures) (c .before .before .put322 .ensures)))),
+)
 
 pub put-rtp-spec : {M : Type 1} → statement M
 put-rtp-spec =
     tie.close
     (tie.spec
-    first-byte-requires
-    second-byte-requires
+    pack-first-requires
+    pack-second-requires
     put8-requires
     put8-requires-2
     put16-requires

@@ -22,7 +22,15 @@ same-length c = search needs
 
 returns : tie.Need-returns
 unfolding udpBytes
-returns c = (omega arith, wrote-then (c .before .before .before .before .before .before .before .before .before .before .before .before .before .before .put16 .ensures) (wrote-then (c .before .before .before .before .before .before .before .before .before .before .put162 .ensures) (wrote-then (c .before .before .before .before .before .before .put163 .ensures) (c .before .before .put164 .ensures))))
+returns c = (
+  omega arith,
+  let b6 = c .before .before .before .before .before .before in
+      let b10 = b6 .before .before .before .before in
+      let b14 = b10 .before .before .before .before in
+      wrote-then (b14 .put16 .ensures) (
+      wrote-then (b10 .put162 .ensures) (
+      wrote-then (b6 .put163 .ensures) (c .before .before .put164 .ensures))),
+)
 
 pub put-udp-spec : {M : Type 1} → statement M
 put-udp-spec =

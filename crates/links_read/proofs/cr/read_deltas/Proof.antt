@@ -14,7 +14,11 @@ next-delta32-requires c κs = search needs
 
 returns : tie.Need-returns
 unfolding deltasOf
-returns c = rw (c .before .before .before .before .next-delta32 .ensures, c .before .before .before .before .before .next-delta162 .ensures, c .before .before .before .before .before .before .next-delta16 .ensures)
+returns c =
+    let b4 = c .before .before .before .before in
+    let b5 = b4 .before in
+    let b6 = b5 .before in
+    rw (b4 .next-delta32 .ensures, b5 .next-delta162 .ensures, b6 .next-delta16 .ensures)
 
 pub read-deltas-spec : {M : Type 1} → statement M
 read-deltas-spec =

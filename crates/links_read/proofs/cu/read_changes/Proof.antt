@@ -17,7 +17,12 @@ next-word-requires-2 c κs = search needs
 
 returns : tie.Need-returns
 unfolding changesOf
-returns c = rw (c .before .before .before .before .before .next-word2 .ensures, c .before .before .before .before .before .before .next-delta32 .ensures, c .before .before .before .before .before .before .before .next-delta16 .ensures, c .before .before .before .before .before .before .before .before .next-word .ensures)
+returns c =
+    let b5 = c .before .before .before .before .before in
+    let b6 = b5 .before in
+    let b7 = b6 .before in
+    let b8 = b7 .before in
+    rw (b5 .next-word2 .ensures, b6 .next-delta32 .ensures, b7 .next-delta16 .ensures, b8 .next-word .ensures)
 
 pub read-changes-spec : {M : Type 1} → statement M
 read-changes-spec =

@@ -17,7 +17,12 @@ next-list-requires c κs = search needs
 
 returns : tie.Need-returns
 unfolding valuesOf
-returns c = rw (c .before .before .before .before .before .next-list .ensures, c .before .before .before .before .before .before .next-payload .ensures, c .before .before .before .before .before .before .before .next-long .ensures, c .before .before .before .before .before .before .before .before .next-word .ensures)
+returns c =
+    let b5 = c .before .before .before .before .before in
+    let b6 = b5 .before in
+    let b7 = b6 .before in
+    let b8 = b7 .before in
+    rw (b5 .next-list .ensures, b6 .next-payload .ensures, b7 .next-long .ensures, b8 .next-word .ensures)
 
 pub read-values-spec : {M : Type 1} → statement M
 read-values-spec =

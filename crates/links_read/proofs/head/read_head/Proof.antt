@@ -1,4 +1,3 @@
-use Rattle.links.specs.Head.{headOf}
 use borrow.Author.Needs.{needs}
 use Rattle.links_read.proofs.head.read_head.Statement.{statement}
 use Rattle.links_read.proofs.head.read_head.Tie as tie
@@ -10,7 +9,6 @@ split-requires : tie.Need-split-requires
 split-requires c κs = search needs
 
 returns : tie.Need-returns
-unfolding headOf
 returns c = (rw (c .split .ensures .0, c .before .before .before .next-byte .ensures), c .split .ensures .1)
 
 pub read-head-spec : {M : Type 1} → statement M

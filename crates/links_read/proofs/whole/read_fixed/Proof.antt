@@ -20,7 +20,13 @@ next-long-requires-2 c κs = search needs
 
 returns : tie.Need-returns
 unfolding fixedOf
-returns c = rw (c .before .before .before .before .before .before .next-long2 .ensures, c .before .before .before .before .before .before .before .next-long .ensures, c .before .before .before .before .before .before .before .before .next-word .ensures, c .before .before .before .before .before .before .before .before .before .next-byte .ensures, c .before .before .before .before .before .before .before .before .before .before .next-version .ensures)
+returns c =
+    let b6 = c .before .before .before .before .before .before in
+    let b7 = b6 .before in
+    let b8 = b7 .before in
+    let b9 = b8 .before in
+    let b10 = b9 .before in
+    rw (b6 .next-long2 .ensures, b7 .next-long .ensures, b8 .next-word .ensures, b9 .next-byte .ensures, b10 .next-version .ensures)
 
 pub read-fixed-spec : {M : Type 1} → statement M
 read-fixed-spec =

@@ -13,16 +13,15 @@ put-delta16-requires-2 c κs = search needs
 put-delta32-requires : tie.Need-put-delta32-requires
 put-delta32-requires c κs = search needs
 
-put-list-requires : tie.Need-put-list-requires
-put-list-requires c κs = search needs
-
 same-length : tie.Need-same-length
 same-length c = search needs
 
 returns : tie.Need-returns
 returns c = (
   omega arith,
-  wrote-then (c .before .before .before .before .before .before .before .before .before .before .before .before .before .before .put-delta16 .ensures) (wrote-then (c .before .before .before .before .before .before .before .before .before .before .put-delta162 .ensures) (wrote-then (c .before .before .before .before .before .before .put-delta32 .ensures) (c .before .before .put-list .ensures .1))),
+  wrote-then (c .before .before .before .before .before .before .before .before .before .before .put-delta16 .ensures) (
+      wrote-then (c .before .before .before .before .before .before .put-delta162 .ensures) (
+      c .before .before .put-delta32 .ensures)),
 )
 
 pub put-deltas-spec : {M : Type 1} → statement M
@@ -32,6 +31,5 @@ put-deltas-spec =
     put-delta16-requires
     put-delta16-requires-2
     put-delta32-requires
-    put-list-requires
     same-length
     returns)

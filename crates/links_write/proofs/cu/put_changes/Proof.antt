@@ -20,10 +20,15 @@ same-length : tie.Need-same-length
 same-length c = search needs
 
 returns : tie.Need-returns
-returns c = (
-  omega arith,
-  wrote-then (c .before .before .before .before .before .before .before .before .before .before .before .before .before .before .put16-if .ensures .1) (wrote-then (c .before .before .before .before .before .before .before .before .before .before .put-delta16 .ensures) (wrote-then (c .before .before .before .before .before .before .put-delta32 .ensures) (c .before .before .put16-if2 .ensures .1))),
-)
+returns c =
+    let b6 = c .before .before .before .before .before .before in
+    let b10 = b6 .before .before .before .before in
+    let b14 = b10 .before .before .before .before in (
+      omega arith,
+      wrote-then (b14 .put16-if .ensures .1) (
+          wrote-then (b10 .put-delta16 .ensures) (
+          wrote-then (b6 .put-delta32 .ensures) (c .before .before .put16-if2 .ensures .1))),
+    )
 
 pub put-changes-spec : {M : Type 1} → statement M
 put-changes-spec =

@@ -4,8 +4,11 @@ use borrow.Author.Needs.{needs}
 use Rattle.links_write.proofs.cu.put_cu.Statement.{statement}
 use Rattle.links_write.proofs.cu.put_cu.Tie as tie
 
-put-head-requires : tie.Need-put-head-requires
-put-head-requires c κs = search needs
+put-flags-requires : tie.Need-put-flags-requires
+put-flags-requires c κs = search needs
+
+put-second-requires : tie.Need-put-second-requires
+put-second-requires c κs = search needs
 
 put-changes-requires : tie.Need-put-changes-requires
 put-changes-requires c κs = search needs
@@ -18,9 +21,22 @@ same-length c = search needs
 
 returns : tie.Need-returns
 unfolding cuBytes
-returns c = wrote-then (c .before .before .before .before .before .before .before .before .before .before .put-head .ensures) (wrote-then (c .before .before .before .before .before .before .put-changes .ensures .1) (c .before .before .put-values .ensures .1))
+returns c =
+    let b6 = c .before .before .before .before .before .before in
+    let b10 = b6 .before .before .before .before in
+    let b14 = b10 .before .before .before .before in
+    wrote-then (b14 .put-flags .ensures .1) (
+    wrote-then (b10 .put-second .ensures .1) (
+    wrote-then (b6 .put-changes .ensures .1) (
+    c .before .before .put-values .ensures .1)))
 
 pub put-cu-spec : {M : Type 1} → statement M
 put-cu-spec =
     tie.close
-    (tie.spec put-head-requires put-changes-requires put-values-requires same-length returns)
+    (tie.spec
+    put-flags-requires
+    put-second-requires
+    put-changes-requires
+    put-values-requires
+    same-length
+    returns)

@@ -10,8 +10,8 @@ sends-checksum-requires c κs = search needs
 enum-told : tie.Need-enum-told
 enum-told c = search needs
 
-fh-size-requires : tie.Need-fh-size-requires
-fh-size-requires c κs = search needs
+header-size-requires : tie.Need-header-size-requires
+header-size-requires c κs = search needs
 
 enum-told-2 : tie.Need-enum-told-2
 enum-told-2 c = search needs
@@ -27,7 +27,7 @@ cr-size-requires c κs = search needs
 
 returns : tie.Need-returns
 unfolding linkSize
-returns c = rw (c .before .enum-told .given .1) (c .fh-size .ensures)
+returns c = rw (c .before .enum-told .given .1) (c .header-size .ensures, omega arith)
 
 returns-2 : tie.Need-returns-2
 unfolding linkSize
@@ -43,7 +43,7 @@ link-size-spec =
     (tie.spec
     sends-checksum-requires
     enum-told
-    fh-size-requires
+    header-size-requires
     enum-told-2
     cu-size-requires
     enum-told-3

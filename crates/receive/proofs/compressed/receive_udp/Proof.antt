@@ -1,9 +1,14 @@
 use Rattle.receive.specs.TakenLaws.{takes-udp, takes-old}
-use Rattle.links.proofs.Range.{cuOf-within, cuOf-sound}
+use Rattle.links.specs.declared.cu.CuFlags.{CuFlags}
 use Rattle.context.specs.Decompressor.{checksumRead}
+use Rattle.links.proofs.Range.{cuOf-within, cuOf-sound}
+use mathlib.Core.Path.{sym, ap, _∙_}
 use borrow.Author.Needs.{needs}
 use Rattle.receive.proofs.compressed.receive_udp.Statement.{statement}
 use Rattle.receive.proofs.compressed.receive_udp.Tie as tie
+
+split-flags-requires : tie.Need-split-flags-requires
+split-flags-requires c κs = search needs
 
 reads-checksum-requires : tie.Need-reads-checksum-requires
 reads-checksum-requires c κs = search needs
@@ -12,10 +17,13 @@ read-cu-requires : tie.Need-read-cu-requires
 read-cu-requires c κs = search needs
 
 receive-parts-requires : tie.Need-receive-parts-requires
-receive-parts-requires c κs = let p = c .before .before .before .before .before .before .before .pre in
-    let a = c .before .before .before .before .before .before .before .args in
+receive-parts-requires c κs =
+    let b2 = c .before .before in
+    let b8 = b2 .before .before .before .before .before .before in
+    let p = b8 .pre in
+    let a = b8 .args in
     let k = checksumRead (a .c) in
-    rw (c .before .read-cu .ensures, c .before .before .reads-checksum .ensures) (
+    rw (c .before .read-cu .ensures, b2 .reads-checksum .ensures) (
       p .0 .few,
       p .0 .link,
       p .1,
@@ -29,9 +37,14 @@ same-length : tie.Need-same-length
 same-length c = search needs
 
 returns : tie.Need-returns
-returns c = let a = c .before .before .before .before .before .before .before .before .before .before .args in
-    takes-udp (a .n) (a .c) _ _ (a .s .now) (a .out .now) (a .old) (a .h) (c .before .before .before .before .before .before .if1 .taken)
-    (rw (c .before .before .before .before .read-cu .ensures, c .before .before .before .before .before .reads-checksum .ensures) at (c .before .before .receive-parts .ensures))
+returns c =
+    let b4 = c .before .before .before .before in
+    let b5 = b4 .before in
+    let b7 = b5 .before .before in
+    let a = b7 .before .before .before .before .args in
+    let values = ap (λ (f : CuFlags). f .values) (sym (b7 .split-flags .ensures)) ∙ b5 .before .if1 .taken in
+    takes-udp (a .n) (a .c) _ _ (a .s .now) (a .out .now) (a .old) (a .h) values
+    (rw (b4 .read-cu .ensures, b5 .reads-checksum .ensures) at (c .before .before .receive-parts .ensures))
 
 receive-whole-requires : tie.Need-receive-whole-requires
 receive-whole-requires c κs = search needs
@@ -40,13 +53,18 @@ same-length-2 : tie.Need-same-length-2
 same-length-2 c = search needs
 
 returns-2 : tie.Need-returns-2
-returns-2 c = let a = c .before .before .before .before .before .before .before .before .args in
-    takes-old (a .n) (a .c) _ _ (a .s .now) (a .out .now) (a .old) (a .h) (c .before .before .before .before .if1 .left) (c .before .before .receive-whole .ensures)
+returns-2 c =
+    let b4 = c .before .before .before .before in
+    let b5 = b4 .before in
+    let a = b5 .before .before .before .before .args in
+    let values = ap (λ (f : CuFlags). f .values) (sym (b5 .split-flags .ensures)) ∙ b4 .if1 .left in
+    takes-old (a .n) (a .c) _ _ (a .s .now) (a .out .now) (a .old) (a .h) values (c .before .before .receive-whole .ensures)
 
 pub receive-udp-spec : {M : Type 1} → statement M
 receive-udp-spec =
     tie.close
     (tie.spec
+    split-flags-requires
     reads-checksum-requires
     read-cu-requires
     receive-parts-requires

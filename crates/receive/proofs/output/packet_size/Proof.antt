@@ -1,6 +1,5 @@
 use Prim.Native.Nat.{_≤_}
 use Rattle.decompressor.specs.PacketLaws.{length-packetOf}
-use mathlib.Core.Path.{sym, _∙_}
 use mathlib.Core.Path.{_≡_}
 use lib.ListN.{length}
 use native.Mathlib.Omega.{arith}
@@ -15,20 +14,16 @@ words-fifteen s = search needs
 words-enough : (s : tie.Start) → s .args .h .csrc .count ≤ length (s .args .h .csrc .words)
 words-enough s = omega (arith, s .pre .0, words-fifteen s)
 
-cast-result : tie.Need-cast-result
-cast-result c = search needs
-
-mul-result : tie.Need-mul-result
-mul-result c = search needs
+header-size-requires : tie.Need-header-size-requires
+header-size-requires c κs = search needs
 
 add-result : tie.Need-add-result
 add-result c = search needs
 
-add-result-2 : tie.Need-add-result-2
-add-result-2 c = search needs
-
 returns : tie.Need-returns
-returns c = (omega arith, let a = c .before .before .args in sym (length-packetOf (a .h) (a .rest .now) (words-enough (c .before .before))))
+returns c =
+    let start = c .before .before in
+    (omega arith, omega (arith, length-packetOf (start .args .h) (start .args .rest .now) (words-enough start)))
 
 pub packet-size-spec : {M : Type 1} → statement M
-packet-size-spec = tie.close (tie.spec cast-result mul-result add-result add-result-2 returns)
+packet-size-spec = tie.close (tie.spec header-size-requires add-result returns)

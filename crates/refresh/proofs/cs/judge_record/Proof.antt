@@ -19,14 +19,14 @@ returns : tie.Need-returns
 unfolding recordJudged
 returns c = sym (recordWith-context _ _ _ _ (c .if1 .taken))
 
-add-split : tie.Need-add-split
-add-split c = search needs
+add-split-record : tie.Need-add-split-record
+add-split-record c = search needs
 
-shared-slice-read-split : tie.Need-shared-slice-read-split
-shared-slice-read-split c = search needs
+shared-slice-read-split-record : tie.Need-shared-slice-read-split-record
+shared-slice-read-split-record c = search needs
 
-split-requires : tie.Need-split-requires
-split-requires c κs = search needs
+split-record-requires : tie.Need-split-record-requires
+split-record-requires c κs = search needs
 
 add-if2 : tie.Need-add-if2
 add-if2 c = search needs
@@ -36,11 +36,17 @@ shared-slice-read-if2 c = search needs
 
 returns-2 : tie.Need-returns-2
 unfolding recordJudged
-returns-2 c = rw (← c .before .before .before .before .split .ensures .0) (sym (recordWith-bits _ _ (c .before .before .before .before .split .result) _ (c .before .before .before .before .before .before .if1 .left) true (c .if2 .taken)))
+returns-2 c =
+    let b4 = c .before .before .before .before in
+    let b6 = b4 .before .before in
+    rw (← b4 .split-record .ensures) (sym (recordWith-bits _ _ (b4 .split-record .result) _ (b6 .if1 .left) true (c .if2 .taken)))
 
 returns-3 : tie.Need-returns-3
 unfolding recordJudged
-returns-3 c = rw (← c .before .before .before .before .split .ensures .0) (sym (recordWith-bits _ _ (c .before .before .before .before .split .result) _ (c .before .before .before .before .before .before .if1 .left) false (c .if2 .left)))
+returns-3 c =
+    let b4 = c .before .before .before .before in
+    let b6 = b4 .before .before in
+    rw (← b4 .split-record .ensures) (sym (recordWith-bits _ _ (b4 .split-record .result) _ (b6 .if1 .left) false (c .if2 .left)))
 
 pub judge-record-spec : {M : Type 1} → statement M
 judge-record-spec =
@@ -50,9 +56,9 @@ judge-record-spec =
     add-at
     shared-slice-read-if1
     returns
-    add-split
-    shared-slice-read-split
-    split-requires
+    add-split-record
+    shared-slice-read-split-record
+    split-record-requires
     add-if2
     shared-slice-read-if2
     returns-2

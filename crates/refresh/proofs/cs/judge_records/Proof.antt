@@ -37,8 +37,17 @@ loop-less : tie.Need-loop-less Inv-loop μ-loop
 loop-less c = search needs
 
 loop-again : tie.Need-loop-again Inv-loop μ-loop
-loop-again c = let l = c .before .before .before .before .loop in
-    (omega arith, l .inv .1 ∙ rw (recordsJudged-more _ _ (l .i) _ (c .before .before .before .loop-test .taken), ← c .before .before .judge-record .ensures, c .enum-told .given .1))
+loop-again c =
+    let b3 = c .before .before .before in
+    let b4 = b3 .before in
+    let l = b4 .loop in (
+      omega arith,
+      l .inv .1 ∙ rw (
+        recordsJudged-more _ _ (l .i) _ (b3 .loop-test .taken),
+        ← c .before .before .judge-record .ensures,
+        c .enum-told .given .1,
+      ),
+    )
 
 returns-2 : tie.Need-returns-2 Inv-loop μ-loop
 returns-2 c = let l = c .before .loop in

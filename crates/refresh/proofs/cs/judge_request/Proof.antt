@@ -27,14 +27,26 @@ add-if3 c = search needs
 
 returns-3 : tie.Need-returns-3
 unfolding requestJudged
-returns-3 c = rw (le-ltb _ _ (c .before .before .before .before .if1 .left), ← c .before .before .before .record-count .ensures .0, c .before .if2 .left, ne-eqb _ _ (c .if3 .taken))
+returns-3 c =
+    let b3 = c .before .before .before in
+    let b4 = b3 .before in
+    rw (le-ltb _ _ (b4 .if1 .left), ← b3 .record-count .ensures .0, c .before .if2 .left, ne-eqb _ _ (c .if3 .taken))
 
 judge-records-requires : tie.Need-judge-records-requires
 judge-records-requires c κs = search needs
 
 returns-4 : tie.Need-returns-4
 unfolding requestJudged
-returns-4 c = rw (le-ltb _ _ (c .before .before .before .before .before .if1 .left), ← c .before .before .before .before .record-count .ensures .0, c .before .before .if2 .left, eq-eqb _ _ (c .before .if3 .left)) (c .judge-records .ensures)
+returns-4 c =
+    let b4 = c .before .before .before .before in
+    let b5 = b4 .before in
+    rw (
+      le-ltb _ _ (b5 .if1 .left),
+      ← b4 .record-count .ensures .0,
+      c .before .before .if2 .left,
+      eq-eqb _ _ (c .before .if3 .left),
+    )
+    (c .judge-records .ensures)
 
 pub judge-request-spec : {M : Type 1} → statement M
 judge-request-spec =

@@ -14,7 +14,11 @@ same-length : tie.Need-same-length
 same-length c = search needs
 
 returns : tie.Need-returns
-returns c = (omega arith, wrote-then (c .before .before .before .before .before .before .put8 .ensures) (c .before .before .put82 .ensures))
+returns c = (
+  omega arith,
+  let b6 = c .before .before .before .before .before .before in
+      wrote-then (b6 .put8 .ensures) (c .before .before .put82 .ensures),
+)
 
 pub put-count-spec : {M : Type 1} → statement M
 put-count-spec = tie.close (tie.spec put8-requires put8-requires-2 same-length returns)

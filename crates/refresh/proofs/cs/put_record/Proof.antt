@@ -4,8 +4,8 @@ use borrow.Author.Needs.{needs}
 use Rattle.refresh.proofs.cs.put_record.Statement.{statement}
 use Rattle.refresh.proofs.cs.put_record.Tie as tie
 
-pack-requires : tie.Need-pack-requires
-pack-requires c κs = search needs
+pack-record-requires : tie.Need-pack-record-requires
+pack-record-requires c κs = search needs
 
 put8-requires : tie.Need-put8-requires
 put8-requires c κs = search needs
@@ -20,9 +20,16 @@ same-length : tie.Need-same-length
 same-length c = search needs
 
 returns : tie.Need-returns
-returns c = (omega arith, rw (c .before .before .before .before .before .before .before .before .before .before .before .before .pack .ensures) at (wrote-then (c .before .before .before .before .before .before .before .before .before .before .put8 .ensures) (wrote-then (c .before .before .before .before .before .before .put82 .ensures) (c .before .before .put83 .ensures))))
+returns c = (
+  omega arith,
+  let b6 = c .before .before .before .before .before .before in
+      let b10 = b6 .before .before .before .before in
+      let b12 = b10 .before .before in
+      rw (b12 .pack-record .ensures) at
+      (wrote-then (b10 .put8 .ensures) (wrote-then (b6 .put82 .ensures) (c .before .before .put83 .ensures))),
+)
 
 pub put-record-spec : {M : Type 1} → statement M
 put-record-spec =
     tie.close
-    (tie.spec pack-requires put8-requires put8-requires-2 put8-requires-3 same-length returns)
+    (tie.spec pack-record-requires put8-requires put8-requires-2 put8-requires-3 same-length returns)

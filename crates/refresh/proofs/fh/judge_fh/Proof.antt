@@ -32,24 +32,58 @@ fields-form-requires c κs = search needs
 
 returns-3 : tie.Need-returns-3
 unfolding fhJudged
-returns-3 c = rw (le-ltb _ 40 (c .before .before .before .before .before .before .before .if1 .left), lt-leb _ _ (c .before .before .before .before .before .if2 .left), ← c .before .before .fixed-form .ensures, ← c .before .fields-form .ensures, ← c .before .before .before .before .word-at .ensures, ← c .before .before .before .ip-checksum-of .ensures, c .if3 .taken)
+returns-3 c =
+    let b3 = c .before .before .before in
+    let b4 = b3 .before in
+    let b5 = b4 .before in
+    let b7 = b5 .before .before in
+    rw (
+      le-ltb _ 40 (b7 .if1 .left),
+      lt-leb _ _ (b5 .if2 .left),
+      ← c .before .before .fixed-form .ensures,
+      ← c .before .fields-form .ensures,
+      ← b4 .word-at .ensures,
+      ← b3 .ip-checksum-of .ensures,
+      c .if3 .taken,
+    )
 
 count-at-requires : tie.Need-count-at-requires
 count-at-requires c κs = search needs
 
-mul-if4 : tie.Need-mul-if4
-mul-if4 c = search needs
-
-add-if4 : tie.Need-add-if4
-add-if4 c = search needs
+size-with-requires : tie.Need-size-with-requires
+size-with-requires c κs = search needs
 
 returns-4 : tie.Need-returns-4
 unfolding fhJudged
-returns-4 c = rw (le-ltb _ 40 (c .before .before .before .before .before .before .before .before .before .if1 .left), lt-leb _ _ (c .before .before .before .before .before .before .before .if2 .left), ← c .before .before .before .before .fixed-form .ensures, ← c .before .before .before .fields-form .ensures, ← c .before .before .before .before .before .before .word-at .ensures, ← c .before .before .before .before .before .ip-checksum-of .ensures, c .before .before .if3 .left, ← c .before .count-at .ensures .0, lt-ltb _ _ (c .if4 .taken))
+returns-4 c =
+    rw (
+      le-ltb _ 40 (c .before .before .before .before .before .before .before .before .before .before .if1 .left),
+      lt-leb _ _ (c .before .before .before .before .before .before .before .before .if2 .left),
+      ← c .before .before .before .before .before .fixed-form .ensures,
+      ← c .before .before .before .before .fields-form .ensures,
+      ← c .before .before .before .before .before .before .before .word-at .ensures,
+      ← c .before .before .before .before .before .before .ip-checksum-of .ensures,
+      c .before .before .before .if3 .left,
+      ← c .before .before .count-at .ensures .0,
+      ← c .before .size-with .ensures,
+      lt-ltb _ _ (c .if4 .taken),
+    )
 
 returns-5 : tie.Need-returns-5
 unfolding fhJudged
-returns-5 c = rw (le-ltb _ 40 (c .before .before .before .before .before .before .before .before .before .if1 .left), lt-leb _ _ (c .before .before .before .before .before .before .before .if2 .left), ← c .before .before .before .before .fixed-form .ensures, ← c .before .before .before .fields-form .ensures, ← c .before .before .before .before .before .before .word-at .ensures, ← c .before .before .before .before .before .ip-checksum-of .ensures, c .before .before .if3 .left, ← c .before .count-at .ensures .0, le-ltb _ _ (c .if4 .left))
+returns-5 c =
+    rw (
+      le-ltb _ 40 (c .before .before .before .before .before .before .before .before .before .before .if1 .left),
+      lt-leb _ _ (c .before .before .before .before .before .before .before .before .if2 .left),
+      ← c .before .before .before .before .before .fixed-form .ensures,
+      ← c .before .before .before .before .fields-form .ensures,
+      ← c .before .before .before .before .before .before .before .word-at .ensures,
+      ← c .before .before .before .before .before .before .ip-checksum-of .ensures,
+      c .before .before .before .if3 .left,
+      ← c .before .before .count-at .ensures .0,
+      ← c .before .size-with .ensures,
+      le-ltb _ _ (c .if4 .left),
+    )
 
 pub judge-fh-spec : {M : Type 1} → statement M
 judge-fh-spec =
@@ -65,7 +99,6 @@ judge-fh-spec =
     fields-form-requires
     returns-3
     count-at-requires
-    mul-if4
-    add-if4
+    size-with-requires
     returns-4
     returns-5)

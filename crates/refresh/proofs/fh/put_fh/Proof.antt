@@ -17,7 +17,10 @@ same-length c = search needs
 
 returns : tie.Need-returns
 unfolding fhBytes
-returns c = rw (c .before .before .before .before .before .ip-field .ensures, c .before .before .before .before .ip-checksum .ensures) at (c .before .before .put-header .ensures)
+returns c =
+    let b4 = c .before .before .before .before in
+    let b5 = b4 .before in
+    rw (b5 .ip-field .ensures, b4 .ip-checksum .ensures) at (c .before .before .put-header .ensures)
 
 pub put-fh-spec : {M : Type 1} → statement M
 put-fh-spec =

@@ -1,4 +1,6 @@
 use Rattle.links.specs.Fh.{fhOf}
+use Rattle.codes.specs.Reading.{byteAt}
+use lib.Bits.{and-mask}
 use borrow.Author.Needs.{needs}
 use Rattle.refresh.proofs.fh.read_fh.Statement.{statement}
 use Rattle.refresh.proofs.fh.read_fh.Tie as tie
@@ -6,45 +8,34 @@ use Rattle.refresh.proofs.fh.read_fh.Tie as tie
 read-header-requires : tie.Need-read-header-requires
 read-header-requires c κs = search needs
 
-shared-slice-read-low-six : tie.Need-shared-slice-read-low-six
-shared-slice-read-low-six c = search needs
+header-size-requires : tie.Need-header-size-requires
+header-size-requires c κs = search needs
 
-low-six-requires : tie.Need-low-six-requires
-low-six-requires c κs = search needs
-
-shared-slice-read-split : tie.Need-shared-slice-read-split
-shared-slice-read-split c = search needs
-
-split-requires : tie.Need-split-requires
-split-requires c κs = search needs
-
-count-at-requires : tie.Need-count-at-requires
-count-at-requires c κs = search needs
+shared-slice-read-t5 : tie.Need-shared-slice-read-t5
+shared-slice-read-t5 c = search needs
 
 shared-slice-read-t7 : tie.Need-shared-slice-read-t7
 shared-slice-read-t7 c = search needs
 
-mul-t10 : tie.Need-mul-t10
-mul-t10 c = search needs
-
-add-t11 : tie.Need-add-t11
-add-t11 c = search needs
+shared-slice-read-t10 : tie.Need-shared-slice-read-t10
+shared-slice-read-t10 c = search needs
 
 returns : tie.Need-returns
 unfolding fhOf
-returns c = rw (c .before .before .before .before .before .before .read-header .ensures, c .before .before .before .before .low-six .ensures, c .before .before .split .ensures .0, c .before .count-at .ensures .0)
+returns c =
+    let b3 = c .before .before .before in
+    let b4 = b3 .before in
+    let b6 = b4 .before .before in
+    let s = b6 .args .s .now in
+    rw (b3 .header-size .ensures, b4 .read-header .ensures, and-mask (byteAt s 2) 6, and-mask (byteAt s 25) 4)
 
 pub read-fh-spec : {M : Type 1} → statement M
 read-fh-spec =
     tie.close
     (tie.spec
     read-header-requires
-    shared-slice-read-low-six
-    low-six-requires
-    shared-slice-read-split
-    split-requires
-    count-at-requires
+    header-size-requires
+    shared-slice-read-t5
     shared-slice-read-t7
-    mul-t10
-    add-t11
+    shared-slice-read-t10
     returns)

@@ -13,11 +13,14 @@ add-t9 c = search needs
 
 returns : tie.Need-returns
 unfolding readByte
-returns c = let a = c .before .before .args in rw (fieldAt-there (a .s .now) (a .self .at) 1 (byteAt (a .s .now) (a .self .at)) (omega arith))
+returns c =
+    let a = c .before .before .args in
+    rw (fieldAt-there (a .s .now) (a .self .at) 1 (byteAt (a .s .now) (a .self .at)) (omega arith))
 
 returns-2 : tie.Need-returns-2
 unfolding readByte
-returns-2 c = let a = c .before .args in rw (fieldAt-cut (a .s .now) (a .self .at) 1 (byteAt (a .s .now) (a .self .at)) (omega arith))
+returns-2 c =
+    let a = c .before .args in rw (fieldAt-cut (a .s .now) (a .self .at) 1 (byteAt (a .s .now) (a .self .at)) (omega arith))
 
 pub byte-spec : {M : Type 1} → statement M
 byte-spec = tie.close (tie.spec shared-slice-read-t8 add-t9 returns returns-2)

@@ -53,9 +53,14 @@ value-of-two-requires : tie.Need-value-of-two-requires
 value-of-two-requires c κs = search needs
 
 returns-4 : tie.Need-returns-4
-returns-4 c = λ m wide.
-    let a = c .before .before .before .before .before .before .before .before .before .before .args in
-    c .value-of-two .ensures m wide ∙ sym (readBy-two m (a .s .now) (a .self .at) (c .before .before .before .before .before .before .wide .result * 256 + c .before .before .wide2 .result) (omega arith) (omega arith) (omega arith) (omega arith))
+returns-4 c =
+    let b6 = c .before .before .before .before .before .before in
+    let b10 = b6 .before .before .before .before in
+    λ m wide.
+    let a = b10 .args in
+    c .value-of-two .ensures m wide ∙ sym
+    (readBy-two m (a .s .now) (a .self .at) (b6 .wide .result * 256 + c .before .before .wide2 .result) (omega arith) (omega arith)
+    (omega arith) (omega arith))
 
 returns-5 : tie.Need-returns-5
 returns-5 c = λ m wide.
@@ -90,9 +95,15 @@ value-of-three-requires : tie.Need-value-of-three-requires
 value-of-three-requires c κs = search needs
 
 returns-6 : tie.Need-returns-6
-returns-6 c = λ m wide.
-    let a = c .before .before .before .before .before .before .before .before .before .before .before .before .before .args in
-    c .value-of-three .ensures m wide ∙ sym (readBy-three m (a .s .now) (a .self .at) ((c .before .before .before .before .before .before .before .before .before .wide .result * 256 + c .before .before .before .before .before .wide2 .result) * 256 + c .before .wide3 .result) (omega arith) (omega arith) (omega arith))
+returns-6 c =
+    let b5 = c .before .before .before .before .before in
+    let b9 = b5 .before .before .before .before in
+    let b13 = b9 .before .before .before .before in
+    λ m wide.
+    let a = b13 .args in
+    c .value-of-three .ensures m wide ∙ sym
+    (readBy-three m (a .s .now) (a .self .at) ((b9 .wide .result * 256 + b5 .wide2 .result) * 256 + c .before .wide3 .result)
+    (omega arith) (omega arith) (omega arith))
 
 pub code-spec : {M : Type 1} → statement M
 code-spec =

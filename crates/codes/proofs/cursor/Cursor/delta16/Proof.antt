@@ -9,14 +9,14 @@ use Rattle.codes.proofs.cursor.Cursor.delta16.Tie as tie
 code-requires : tie.Need-code-requires
 code-requires c κs = search needs
 
-enum-known-v : tie.Need-enum-known-v
-enum-known-v c = search needs
+enum-known-up : tie.Need-enum-known-up
+enum-known-up c = search needs
 
 low16-requires : tie.Need-low16-requires
 low16-requires c κs = search needs
 
-enum-known-v-2 : tie.Need-enum-known-v-2
-enum-known-v-2 c = search needs
+enum-known-down : tie.Need-enum-known-down
+enum-known-down c = search needs
 
 difference16-requires : tie.Need-difference16-requires
 difference16-requires c κs = search needs
@@ -28,13 +28,15 @@ enum-told-2 : tie.Need-enum-told-2
 enum-told-2 c = search needs
 
 returns : tie.Need-returns
-returns c = rw (← c .before .before .before .before .code .ensures 65536 (omega arith), c .before .before .v .given .1, c .low16 .ensures)
+returns c =
+    let b4 = c .before .before .before .before in
+    rw (← b4 .code .ensures 65536 (omega arith), c .before .before .up .given .1, c .low16 .ensures)
 
 returns-2 : tie.Need-returns-2
 unfolding difference
-returns-2 c = let v = c .before .before .v2 .given .0 .0 in
-    let e : c .difference16 .result ≡ (65536 - v) % 65536 = omega arith in
-    rw (← c .before .before .before .before .code .ensures 65536 (omega arith), c .before .before .v2 .given .1, e)
+returns-2 c = let down = c .before .before .down .given .0 .0 in
+    let e : c .difference16 .result ≡ (65536 - down) % 65536 = omega arith in
+    rw (← c .before .before .before .before .code .ensures 65536 (omega arith), c .before .before .down .given .1, e)
 
 returns-3 : tie.Need-returns-3
 returns-3 c = rw (← c .before .before .code .ensures 65536 (omega arith), c .enum-told .given .1)
@@ -47,9 +49,9 @@ delta16-spec =
     tie.close
     (tie.spec
     code-requires
-    enum-known-v
+    enum-known-up
     low16-requires
-    enum-known-v-2
+    enum-known-down
     difference16-requires
     enum-told
     enum-told-2

@@ -10,11 +10,11 @@ use Rattle.codes.proofs.cursor.Cursor.delta32.Tie as tie
 code-requires : tie.Need-code-requires
 code-requires c κs = search needs
 
-enum-known-v : tie.Need-enum-known-v
-enum-known-v c = search needs
+enum-known-up : tie.Need-enum-known-up
+enum-known-up c = search needs
 
-enum-known-v-2 : tie.Need-enum-known-v-2
-enum-known-v-2 c = search needs
+enum-known-down : tie.Need-enum-known-down
+enum-known-down c = search needs
 
 cast-difference32 : tie.Need-cast-difference32
 cast-difference32 c = search needs
@@ -29,15 +29,15 @@ enum-told-2 : tie.Need-enum-told-2
 enum-told-2 c = search needs
 
 returns : tie.Need-returns
-returns c = let v = c .before .v .given .0 .0 in
-    let e : v % 4294967296 ≡ v = mod-eq-of-lt (search needs) in
-    rw (← c .before .before .before .code .ensures 4294967296 (omega arith), c .before .v .given .1, e)
+returns c = let up = c .before .up .given .0 .0 in
+    let e : up % 4294967296 ≡ up = mod-eq-of-lt (search needs) in
+    rw (← c .before .before .before .code .ensures 4294967296 (omega arith), c .before .up .given .1, e)
 
 returns-2 : tie.Need-returns-2
 unfolding difference
-returns-2 c = let v = c .before .before .v2 .given .0 .0 in
-    let e : c .difference32 .result ≡ (4294967296 - v) % 4294967296 = omega arith in
-    rw (← c .before .before .before .before .code .ensures 4294967296 (omega arith), c .before .before .v2 .given .1, e)
+returns-2 c = let down = c .before .before .down .given .0 .0 in
+    let e : c .difference32 .result ≡ (4294967296 - down) % 4294967296 = omega arith in
+    rw (← c .before .before .before .before .code .ensures 4294967296 (omega arith), c .before .before .down .given .1, e)
 
 returns-3 : tie.Need-returns-3
 returns-3 c = rw (← c .before .before .code .ensures 4294967296 (omega arith), c .enum-told .given .1)
@@ -50,8 +50,8 @@ delta32-spec =
     tie.close
     (tie.spec
     code-requires
-    enum-known-v
-    enum-known-v-2
+    enum-known-up
+    enum-known-down
     cast-difference32
     difference32-requires
     enum-told
