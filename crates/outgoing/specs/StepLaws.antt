@@ -1,28 +1,37 @@
--- Iarwennol. Laws of a packet's step on a context, the first or a later one. Assume nothing.
--- Used by the proofs and the laws of send.
-use Prim.Native.Nat.{ℕ, zero, suc, _-_, _%_, _≤_}
-use mathlib.Core.Path.{_≡_, refl, sym, ap, _∙_}
+-- Iarwennol. Laws of a packet's step on a context, the first or a later one: it can be written, the context stays sound and within
+-- its types, and the relation of the two ends goes on. Assume nothing.
+-- Used by the proofs and the laws of send, and by the theorem on lists of calls (crtp).
+use Prim.Native.Nat.{ℕ, suc, _-_, _%_, _≤_}
+use mathlib.Core.Path.{_≡_, refl, ap}
 use mathlib.Core.Bool.{Bool, true, false}
 use native.Mathlib.Omega.{arith}
 use borrow.Author.Tests.{le-leb}
 use lib.Dec.{eqb}
-use lib.ListN.{length, replicate}
+use lib.ListN.{length}
 use Rattle.packet.specs.Csrc.{noList}
 use Rattle.packet.specs.declared.csrc.Csrc.{Csrc}
 use Rattle.packet.specs.declared.header.Header.{Header}
 use Rattle.headers.specs.Range.{HeaderInRange, ListInRange}
-use Rattle.context.specs.Compressor.{firstStep, stepOf, partsOf, listIf}
-use Rattle.context.specs.Range.{HeaderFits}
-use Rattle.context.specs.Sound.{zeros, soundList, soundLink, soundCompressor}
+use Rattle.context.specs.AllLaws.{all-replicate}
+use Rattle.context.specs.Compressor.{firstStep, stepOf, partsOf, listIf, begun, reset}
+use Rattle.context.specs.Range.{HeaderFits, Held}
+use Rattle.context.specs.Relation.{Related, Arrives}
+use Rattle.context.specs.Sound.{isZero, soundList, soundLink, soundCompressor, emptyDecompressor}
 use Rattle.context.specs.declared.compressor.Usage.{Usage}
 use Rattle.context.specs.declared.compressor.Usage.the-variants.{Empty, Live}
 use Rattle.context.specs.declared.compressor.CompressorContext.{CompressorContext}
+use Rattle.context.specs.declared.decompressor.DecompressorContext.{DecompressorContext}
 use Rattle.context.specs.declared.kept.Link.{Link}
+use Rattle.context.specs.declared.step.Kind.the-variants.{FullHeader}
 use Rattle.context.specs.declared.step.Step.{Step}
 use Rattle.context.proofs.Tests.{cond-both}
 use Rattle.context.proofs.SoundFacts.{LinkBounds, soundLink-bounds}
 use Rattle.context.proofs.CompressorSound.{sound-first, sound-step}
 use Rattle.context.proofs.PartsLaws.{link-step, list-step}
+use Rattle.context.proofs.Ready.{ready-held}
+use Rattle.context.proofs.Lost.{related-lost, moved-held, step-context}
+use Rattle.context.proofs.Arrives.{related-arrives, related-full}
+use Rattle.context.proofs.Others.{related-first-lost, related-first-arrives}
 use Rattle.outgoing.specs.Outgoing.{stepBy, stepOn}
 use Rattle.outgoing.specs.Size.{Writable}
 
@@ -50,45 +59,12 @@ module _ (n : ℕ) (h : Header) (c : CompressorContext) where
       by Empty e = a
       by Live e = b e
 
----- Writable
-
--- the list of the packet, sent or not
-list-fits : (any : Bool) (l : Csrc) → l .count ≤ length (l .words)
-    → (listIf any l .count ≤ l .count) × (listIf any l .count ≤ length (listIf any l .words))
-unfolding listIf
-list-fits any l f = cond-both (λ (x : Csrc). (x .count ≤ l .count) × (x .count ≤ length (x .words))) any l noList (omega arith, f) (omega arith, omega arith)
-
-module _ (n : ℕ) (h : Header) (r : HeaderInRange h) where
-  list-of : (any : Bool) → (listIf any (h .csrc) .count ≤ h .csrc .count) × (listIf any (h .csrc) .count ≤ length (listIf any (h .csrc) .words))
-  list-of any = list-fits any (h .csrc) (omega (arith, r .csrc .count, r .csrc .size))
-
-  writable-first : Writable h (firstStep n h firstLink)
-  unfolding firstStep partsOf
-  writable-first = let l = list-of false in record { header = r; sequence = omega arith; generation = omega arith; list = l .0; words = l .1 }
-
-  writable-from : (a : Step) → LinkBounds (a .link) → a .parts .csrc ≡ listIf (a .parts .listed) (h .csrc) → Writable h a
-  writable-from a b e =
-      let l = list-of (a .parts .listed) in
-      record { header = r; sequence = omega (arith, b .sequence); generation = omega (arith, b .generation); list = rw e (l .0); words = rw e (l .1) }
-
-  writable-live : (c : CompressorContext) → soundCompressor n c ≡ true → c .status ≡ Live → Writable h (stepOf n h c)
-  writable-live c s u = writable-from (stepOf n h c) (soundLink-bounds (stepOf n h c .link) (link-step n h c u s)) (list-step n h c)
-
-  -- what a sound context sends can be written
-  pub writable-stepOn : (c : CompressorContext) → soundCompressor n c ≡ true → Writable h (stepOn n h c)
-  writable-stepOn c s = stepOn-either n h c (λ a. Writable h a) writable-first (writable-live c s)
-
----- soundCompressor
-
-zeros-replicate : (n : ℕ) → zeros (replicate n 0) ≡ true
-zeros-replicate zero = refl
-zeros-replicate (suc n) = zeros-replicate n
+---- A header that was read from bytes is one that a context may keep
 
 soundList-range : (l : Csrc) → ListInRange l → soundList l ≡ true
 unfolding soundList
-soundList-range l r = rw (le-leb (l .count) 15 (r .count), r .blank) (zeros-replicate (15 - l .count))
+soundList-range l r = rw (le-leb (l .count) 15 (r .count), r .blank) (all-replicate isZero (15 - l .count) 0 refl)
 
--- a header that was read from bytes is one that a context may keep
 pub fits-range : {h : Header} → HeaderInRange h → HeaderFits h
 fits-range {h} r = record {
   flags = omega (arith, r .ip .flags);
@@ -101,11 +77,93 @@ fits-range {h} r = record {
   checksum = r .checksum;
 }
 
-module _ (n : ℕ) (h : Header) (f : HeaderFits h) (even : eqb (h .flow .dport % 2) 0 ≡ true) where
-  sound-firstStep : soundCompressor n (firstStep n h firstLink .context) ≡ true
-  unfolding firstStep soundLink
-  sound-firstStep = sound-first n h firstLink f even refl
+---- Writable
 
-  -- a sound context stays sound
-  pub sound-stepOn : (c : CompressorContext) → soundCompressor n c ≡ true → soundCompressor n (stepOn n h c .context) ≡ true
-  sound-stepOn c s = stepOn-either n h c (λ a. soundCompressor n (a .context) ≡ true) sound-firstStep (λ live. sound-step n h c f live s)
+-- the list of the packet, sent or not
+list-fits : (any : Bool) (l : Csrc) → l .count ≤ length (l .words)
+    → (listIf any l .count ≤ l .count) × (listIf any l .count ≤ length (listIf any l .words))
+unfolding listIf
+list-fits any l f =
+    cond-both (λ (x : Csrc). (x .count ≤ l .count) × (x .count ≤ length (x .words))) any l noList
+    (omega arith, f) (omega arith, omega arith)
+
+module _ (n : ℕ) (h : Header) (r : HeaderInRange h) where
+  list-of : (any : Bool)
+      → (listIf any (h .csrc) .count ≤ h .csrc .count) × (listIf any (h .csrc) .count ≤ length (listIf any (h .csrc) .words))
+  list-of any = list-fits any (h .csrc) (omega (arith, r .csrc .count, r .csrc .size))
+
+  writable-first : Writable h (firstStep n h firstLink)
+  unfolding firstStep partsOf
+  writable-first =
+      let l = list-of false in
+      record { header = r; sequence = omega arith; generation = omega arith; list = l .0; words = l .1 }
+
+  writable-from : (a : Step) → LinkBounds (a .link) → a .parts .csrc ≡ listIf (a .parts .listed) (h .csrc) → Writable h a
+  writable-from a b e =
+      let l = list-of (a .parts .listed) in
+      record {
+        header = r;
+        sequence = omega (arith, b .sequence);
+        generation = omega (arith, b .generation);
+        list = rw e (l .0);
+        words = rw e (l .1);
+      }
+
+  writable-live : (c : CompressorContext) → soundCompressor n c ≡ true → c .status ≡ Live → Writable h (stepOf n h c)
+  writable-live c s u = writable-from (stepOf n h c) (soundLink-bounds (stepOf n h c .link) (link-step n h c u s)) (list-step n h c)
+
+  -- what a sound context sends can be written
+  pub writable-stepOn : (c : CompressorContext) → soundCompressor n c ≡ true → Writable h (stepOn n h c)
+  writable-stepOn c s = stepOn-either n h c (λ a. Writable h a) writable-first (writable-live c s)
+
+  ---- The context that it leaves
+
+  fits : HeaderFits h
+  fits = fits-range r
+
+  module _ (even : eqb (h .flow .dport % 2) 0 ≡ true) where
+    sound-firstStep : soundCompressor n (firstStep n h firstLink .context) ≡ true
+    unfolding firstStep soundLink
+    sound-firstStep = sound-first n h firstLink fits even refl
+
+    -- a sound context stays sound
+    pub sound-stepOn : (c : CompressorContext) → soundCompressor n c ≡ true → soundCompressor n (stepOn n h c .context) ≡ true
+    sound-stepOn c s =
+        stepOn-either n h c (λ a. soundCompressor n (a .context) ≡ true) sound-firstStep (λ live. sound-step n h c fits live s)
+
+  module _ (c : CompressorContext) where
+    held-stepOf : Held c → Held (stepOf n h c .context)
+    held-stepOf k = rw (step-context n h c) (moved-held n h (reset (begun n h c)) fits (ready-held n h c k))
+
+    -- its numbers stay within their types
+    pub held-stepOn : Held c → Held (stepOn n h c .context)
+    held-stepOn k =
+        stepOn-either n h c (λ a. Held (a .context))
+        (related-first-arrives n emptyDecompressor h firstLink fits (omega arith) .keeps .held) (λ live. held-stepOf k)
+
+    ---- The relation; v: the decompressor's context
+
+    module _ (v : DecompressorContext) where
+      lost-first : (j : ℕ) → suc j ≤ n → Related n (suc j) v (firstStep n h firstLink .context)
+      unfolding firstStep
+      lost-first j few = related-first-lost n j v h firstLink fits few
+
+      -- the packet is lost
+      pub lost-stepOn : (j : ℕ) → Related n j v c → suc j ≤ n → Related n (suc j) v (stepOn n h c .context)
+      lost-stepOn j k few =
+          stepOn-either n h c (λ a. Related n (suc j) v (a .context)) (lost-first j few) (related-lost n j v h c fits few k)
+
+      arrives-first : Arrives n v h (firstStep n h firstLink)
+      arrives-first = related-first-arrives n v h firstLink fits (omega arith)
+
+      module _ (flow : c .status ≡ Live → h .flow ≡ c .flow) where
+        -- the packet arrives
+        pub arrives-stepOn : (j : ℕ) → Related n j v c → n ≤ 14 → Arrives n v h (stepOn n h c)
+        arrives-stepOn j k most =
+            stepOn-either n h c (λ a. Arrives n v h a) arrives-first (λ live. related-arrives n j v h c fits (flow live) k live most)
+
+        -- a full header arrives whatever the decompressor has there
+        pub full-stepOn : Held c → stepOn n h c .kind ≡ FullHeader → Arrives n v h (stepOn n h c)
+        full-stepOn k =
+            stepOn-either n h c (λ a. a .kind ≡ FullHeader → Arrives n v h a) (λ e. arrives-first)
+            (λ live e. related-full n v h c fits k (flow live) e)
