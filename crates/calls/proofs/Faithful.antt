@@ -1,210 +1,188 @@
--- Iarwennol. The claim of Calls, proved of any two ends that keep a relation for each context number. Assumes nothing.
--- An instance owes the record Laws, one context at a time; `core` and `goes` speak of one context and of any arrivals in order,
--- `faithful` of all contexts and of the list's own arrivals.
-use mathlib.Core.Path.{_≡_, refl, sym, ap, _∙_, subst}
-use mathlib.Core.Bool.{Bool, true, false, true≢false, false≢true}
-use mathlib.Core.List.{List, [], _∷_, _++_, append-assoc, append-nil}
+-- Iarwennol. The claims of Calls, proved of any two ends that meet the Laws. Assumes nothing.
+-- `goes` speaks of one context and of the packets from any number on, `answered` and `faithful` of all contexts from the start on.
+-- Used by the crate that names two ends (crtp).
+use mathlib.Core.Path.{_≡_, refl, sym, subst}
+use mathlib.Core.Bool.{true}
+use mathlib.Core.List.{List, [], _∷_, _++_, append-nil}
 use mathlib.Core.Option.{Option, none, some}
-use Prim.Native.Nat.{ℕ, zero, suc, _+_, _≤_, _<_}
+use Prim.Native.Nat.{ℕ, suc, _-_, _≤_, _<_}
 use native.Mathlib.Omega.{arith}
 use native.Mathlib.Decide.{decLe}
-use lib.Dec.{ltb, eqb}
-use lib.ListN.{length, getD, replicate, length-append, List·getD-append}
+use lib.ListN.{length, getD, length-append, List·getD-append}
 use lib.Seq.{getD-at}
-use borrow.Author.Tests.{ltb-true, ltb-false, eqb-true, eqb-false, le-ltb, lt-ltb, ne-eqb, eq-eqb}
-use Rattle.calls.specs.Calls.{Call, sendCall, requestCall, arrivalCall, otherCall, Sent, Arrival, World, Ends, arrivals, lost, isOn, logged, Bounded}
-use Rattle.calls.specs.Calls.{marks, packetAt, arrived, step, final, Lawful, Exact, Answers, Ready, Faithful}
+use borrow.Author.Tests.{eq-eqb}
+use Rattle.calls.specs.Calls.{Call, sendCall, requestCall, arrivalCall, saveCall, loadCall, otherCall, Sent, Save, World}
+use Rattle.calls.specs.Calls.{Ends, saved, linkAt, saveAt, step, Always, Proper, Allowed, AtArrival, Exact, Answered, fresh}
+use Rattle.calls.specs.Calls.{Faithful}
+use Rattle.calls.proofs.Always.{always-keep, arrivals-map, arrivals-each}
+use Rattle.calls.proofs.Laws.{Laws}
+use Rattle.calls.proofs.Trail.{Trail, stays, asked, sends}
+use Rattle.calls.proofs.Linked.{concerns, Linked, linked-grow, linked-reach, linked-next, answers-next, fine-next}
 
--- no n + 1 lost ones in a row, with j lost ones before
-abbrev pub Runs : ℕ → ℕ → List Bool → Type 0
-Runs n j [] = Unit {0}
-Runs n j (true ∷ ms) = (suc j ≤ n) × Runs n (suc j) ms
-Runs n j (false ∷ ms) = Runs n 0 ms
+module _ {P L B Q F C D SA RA : Type 0} {n : ℕ} {ε : Ends P L B Q F C D SA RA} {Start : C → Type 0} {Fine : D → Type 0}
+    {Rel : ℕ → ℕ → D → C → Type 0} (laws : Laws n ε Start Fine Rel) where
+  ---- One context, counted from number `from` on
 
-slide : (j : ℕ) (ms : List Bool) → replicate (suc j) true ++ ms ≡ replicate j true ++ (true ∷ ms)
-slide zero ms = refl
-slide (suc j) ms = ap {B = List Bool} (λ r. true ∷ r) (slide j ms)
+  module _ (c from : ℕ) where
+    -- a table with its line: the packets given out, the compressor's table, and the first packet that may arrive
+    pub record Tied (log : List (Sent P L)) (now : C) (next : ℕ) (v : D) (line : List ℕ) : Type 0 where
+      pub fine : Fine v
+      pub at : ℕ
+      pub soon : at ≤ next
+      pub linked : Linked laws c from log now at v line
 
-run-on : (n j : ℕ) (ms : List Bool) → j ≤ n → Bounded n (replicate j true ++ (true ∷ ms)) →
-    (suc j ≤ n → Bounded n (replicate (suc j) true ++ ms) → Runs n (suc j) ms) → Dec (suc j ≤ n) → (suc j ≤ n) × Runs n (suc j) ms
-run-on n j ms h b ih (yes k) = (k, ih k (λ x y e. b x y (sym (slide j ms) ∙ e)))
-run-on n j ms h b ih (no k) =
-    let e : j ≡ n = omega arith in
-    absurd (b [] ms (rw e (sym (slide n ms))))
+    -- what a save gave out stands for such a table
+    pub record Stored (log : List (Sent P L)) (now : C) (next : ℕ) (x : Save F) : Type 0 where
+      pub table : D
+      pub back : (d : D) → ε .load d (x .form) ≡ table
+      pub tied : Tied log now next table (x .line)
 
-run-off : (n j : ℕ) (ms : List Bool) → Bounded n (replicate j true ++ (false ∷ ms)) → Bounded n ms
-run-off n j ms b x y e = b (replicate j true ++ (false ∷ x)) y (rw (append-assoc, e))
+    pub record Kept (w : World P L F C D) : Type 0 where
+      pub now : Tied (w .log) (w .compressor) (w .next) (w .decompressor) (w .line)
+      pub stored : (i : ℕ) → i < length (w .saves) → Stored (w .log) (w .compressor) (w .next) (saveAt ε w i)
 
-bounded-runs : (n j : ℕ) (ms : List Bool) → j ≤ n → Bounded n (replicate j true ++ ms) → Runs n j ms
-bounded-runs n j [] h b = tt
-bounded-runs n j (true ∷ ms) h b = run-on n j ms h b (bounded-runs n (suc j) ms) (decLe (suc j) n)
-bounded-runs n j (false ∷ ms) h b = bounded-runs n 0 ms (omega arith) (run-off n j ms b)
+    ---- The compressor's calls
 
--- arrivals in order, from the i-th on, of packets given out
-abbrev pub Asc : {A B : Type 0} → ℕ → List (Arrival B) → List A → Type 0
-Asc i [] es = Unit {0}
-Asc i (a ∷ ar) es = (i ≤ a .index) × (a .index < length es) × Asc (suc (a .index)) ar es
+    module _ (log : List (Sent P L)) (now : C) (next : ℕ) (new : List (Sent P L)) (now′ : C) (way : Trail ε now new now′) where
+      tied-sent : (v : D) (line : List ℕ) → Tied log now next v line → Tied (log ++ new) now′ next v line
+      tied-sent v line t = record {
+        fine = t .fine;
+        at = t .at;
+        soon = t .soon;
+        linked = linked-grow laws c from log now (t .at) v line (t .linked) new now′ way;
+      }
 
-module _ {P L B Q C D SA RA : Type 0} (ε : Ends P L B Q C D SA RA) where
-  -- what the sends of a list give out
-  abbrev pub sends : C → List (Call P B Q) → List (Sent P L)
-  sends s [] = []
-  sends s (sendCall p b ∷ cs) = logged (ε .out (ε .send s p b)) p ++ sends (ε .compressor (ε .send s p b)) cs
-  sends s (requestCall q ∷ cs) = sends (ε .request s q) cs
-  sends s (arrivalCall i b ∷ cs) = sends s cs
-  sends s (otherCall ∷ cs) = sends s cs
+      stored-sent : (x : Save F) → Stored log now next x → Stored (log ++ new) now′ next x
+      stored-sent x s = record { table = s .table; back = s .back; tied = tied-sent (s .table) (x .line) (s .tied) }
 
-module _ {P L B Q C D SA RA : Type 0} (ε : Ends P L B Q C D SA RA) where
-  -- an arrival before the i-th does not bear on whether the i-th is lost
-  lost-earlier : (a : Arrival B) (ar : List (Arrival B)) (i len : ℕ) → a .index < i → lost ε (a ∷ ar) i len ≡ lost ε ar i len
-  lost-earlier a ar i len h = rw (ne-eqb (a .index) i (omega arith), le-ltb i (a .index) (omega arith))
+    kept-send : (w : World P L F C D) (p : P) (b : B) → Kept w → Kept (step ε w (sendCall p b))
+    kept-send w p b k = record {
+      now = tied-sent (w .log) (w .compressor) (w .next) _ _ (sends ε (w .compressor) p b) (w .decompressor) (w .line) (k .now);
+      stored = λ i h. stored-sent (w .log) (w .compressor) (w .next) _ _ (sends ε (w .compressor) p b) (saveAt ε w i)
+          (k .stored i h);
+    }
 
--- whether an arrival bears on context c: it is on c, or it is plain
-abbrev pub concerns : Option ℕ → ℕ → Bool
-concerns none c = true
-concerns (some d) c = eqb d c
-
-module _ {P L B Q C D SA RA : Type 0} (n : ℕ) (ε : Ends P L B Q C D SA RA) (Rel : ℕ → ℕ → D → C → Type 0) where
-  -- Rel c j v s: the relation of the tables at context c, with j packets on c lost since the last accepted one.
-  -- What a proof owes of the two ends, one context at a time:
-  pub record Laws : Type 0 where
-    -- a request
-    pub asks : (c j : ℕ) (v : D) (s : C) (q : Q) → Rel c j v s → Rel c j v (ε .request s q)
-    -- a send that is refused; one on another context, or plain; one on c that is lost
-    pub refuses : (c j : ℕ) (v : D) (s : C) (p : P) (b : B) → ε .out (ε .send s p b) ≡ none → Rel c j v s → Rel c j v (ε .compressor (ε .send s p b))
-    pub others : (c j : ℕ) (v : D) (s : C) (p : P) (b : B) (l : L) → ε .out (ε .send s p b) ≡ some l → isOn (ε .context l) c ≡ false →
-        Rel c j v s → Rel c j v (ε .compressor (ε .send s p b))
-    pub loses : (c j : ℕ) (v : D) (s : C) (p : P) (b : B) (l : L) → ε .out (ε .send s p b) ≡ some l → isOn (ε .context l) c ≡ true →
-        Rel c j v s → suc j ≤ n → Rel c (suc j) v (ε .compressor (ε .send s p b))
-    -- a send on another context, or a plain one, that arrives, whatever becomes of it
-    pub passes : (c j : ℕ) (v : D) (s : C) (p : P) (b : B) (l : L) → ε .out (ε .send s p b) ≡ some l → isOn (ε .context l) c ≡ false → Rel c j v s →
-        (b′ : B) → Rel c j (ε .decompressor (ε .receive v l b′)) (ε .compressor (ε .send s p b))
-    -- an arrival on c with room, and without; a plain one with room
-    pub takes : (c j : ℕ) (v : D) (s : C) (p : P) (b : B) (l : L) → ε .out (ε .send s p b) ≡ some l → isOn (ε .context l) c ≡ true → Rel c j v s →
-        (b′ : B) → ε .size p ≤ ε .room b′ → ε .Right p (ε .receive v l b′) × Rel c 0 (ε .decompressor (ε .receive v l b′)) (ε .compressor (ε .send s p b))
-    pub shorts : (c j : ℕ) (v : D) (s : C) (p : P) (b : B) (l : L) → ε .out (ε .send s p b) ≡ some l → isOn (ε .context l) c ≡ true → Rel c j v s → suc j ≤ n →
-        (b′ : B) → ε .room b′ < ε .size p → Rel c (suc j) (ε .decompressor (ε .receive v l b′)) (ε .compressor (ε .send s p b))
-    pub plains : (c j : ℕ) (v : D) (s : C) (p : P) (b : B) (l : L) → ε .out (ε .send s p b) ≡ some l → ε .context l ≡ none → Rel c j v s →
-        (b′ : B) → ε .size p ≤ ε .room b′ → ε .Right p (ε .receive v l b′)
-    -- without room an arrival is refused for that, on c or plain
-    pub lacks : (c j : ℕ) (v : D) (s : C) (p : P) (b : B) (l : L) → ε .out (ε .send s p b) ≡ some l → isOn (ε .context l) c ≡ true → Rel c j v s →
-        (b′ : B) → ε .room b′ < ε .size p → ε .Lacking (ε .receive v l b′)
-    pub plainLacks : (c j : ℕ) (v : D) (s : C) (p : P) (b : B) (l : L) → ε .out (ε .send s p b) ≡ some l → ε .context l ≡ none → Rel c j v s →
-        (b′ : B) → ε .room b′ < ε .size p → ε .Lacking (ε .receive v l b′)
-
--- One context.
-module _ {P L B Q C D SA RA : Type 0} (n : ℕ) (ε : Ends P L B Q C D SA RA) (Rel : ℕ → ℕ → D → C → Type 0) (laws : Laws n ε Rel) (c : ℕ) where
-  -- the arrivals that bear on c, from a decompressor's table on, of packets given out: with room they are right
-  abbrev pub Good : D → List (Sent P L) → List (Arrival B) → Type 0
-  Good v es [] = Unit {0}
-  Good v es (a ∷ ar) =
-      (concerns (ε .context ((getD es (a .index) (ε .nothing)) .link)) c ≡ true → Answers ε ((getD es (a .index) (ε .nothing)) .orig) ((getD es (a .index) (ε .nothing)) .link) v)
-      × Good (ε .decompressor (ε .receive v ((getD es (a .index) (ε .nothing)) .link) (a .buffer))) es ar
-
-  pub record Linked (ar : List (Arrival B)) (i : ℕ) (v : D) (s : C) (es : List (Sent P L)) : Type 0 where
-    pub j : ℕ
-    pub rel : Rel c j v s
-    pub runs : Runs n j (marks ε c ar i es)
-
-  -- an arrival before the i-th does not bear on what is lost from the i-th on
-  marks-skip : (a : Arrival B) (ar : List (Arrival B)) (i : ℕ) (es : List (Sent P L)) → a .index < i → marks ε c (a ∷ ar) i es ≡ marks ε c ar i es
-  marks-skip a ar i [] h = refl
-  marks-skip a ar i (e ∷ es) h =
-      rw (lost-earlier ε a ar i (ε .size (e .orig)) h, marks-skip a ar (suc i) es (omega arith))
-
-  -- what the first packet's mark says
-  mark-off : (j : ℕ) (ar : List (Arrival B)) (i : ℕ) (e : Sent P L) (es : List (Sent P L)) → isOn (ε .context (e .link)) c ≡ false →
-      Runs n j (marks ε c ar i (e ∷ es)) → Runs n j (marks ε c ar (suc i) es)
-  mark-off j ar i e es h r = rw h at r
-
-  mark-lost : (j : ℕ) (ar : List (Arrival B)) (i : ℕ) (e : Sent P L) (es : List (Sent P L)) → isOn (ε .context (e .link)) c ≡ true → lost ε ar i (ε .size (e .orig)) ≡ true →
-      Runs n j (marks ε c ar i (e ∷ es)) → (suc j ≤ n) × Runs n (suc j) (marks ε c ar (suc i) es)
-  mark-lost j ar i e es h k r = rw (h, k) at r
-
-  mark-kept : (j : ℕ) (ar : List (Arrival B)) (i : ℕ) (e : Sent P L) (es : List (Sent P L)) → isOn (ε .context (e .link)) c ≡ true → lost ε ar i (ε .size (e .orig)) ≡ false →
-      Runs n j (marks ε c ar i (e ∷ es)) → Runs n 0 (marks ε c ar (suc i) es)
-  mark-kept j ar i e es h k r = rw (h, k) at r
-
-  module _ (s : C) (p : P) (b : B) (l : L) (out : ε .out (ε .send s p b) ≡ some l) (es : List (Sent P L)) (ar : List (Arrival B)) (i : ℕ) (v : D)
-      (r : Linked ar i v s (record { orig = p; link = l } ∷ es)) where
-    -- the packet does not arrive
-    next-lost : lost ε ar i (ε .size p) ≡ true → Linked ar (suc i) v (ε .compressor (ε .send s p b)) es
-    next-lost k = go (isOn (ε .context l) c) refl
+    kept-request : (w : World P L F C D) (q : Q) → Kept w → Kept (step ε w (requestCall q))
+    kept-request w q k = subst Kept world-is (record {
+      now = tied-sent (w .log) (w .compressor) (w .next) [] _ way (w .decompressor) (w .line) (k .now);
+      stored = λ i h. stored-sent (w .log) (w .compressor) (w .next) [] _ way (saveAt ε w i) (k .stored i h);
+    })
       where
-        go : (on : Bool) → isOn (ε .context l) c ≡ on → Linked ar (suc i) v (ε .compressor (ε .send s p b)) es
-        go true h = let m = mark-lost (r .j) ar i _ es h k (r .runs) in
-            record { j = suc (r .j); rel = laws .loses c (r .j) v s p b l out h (r .rel) (m .0); runs = m .1 }
-        go false h = record { j = r .j; rel = laws .others c (r .j) v s p b l out h (r .rel); runs = mark-off (r .j) ar i _ es h (r .runs) }
+        way : Trail ε (w .compressor) [] (ε .request (w .compressor) q)
+        way = asked (w .compressor) q (stays (ε .request (w .compressor) q))
 
-    -- the packet arrives: without room, with it
-    next-here : (b′ : B) (short : Bool) → ltb (ε .room b′) (ε .size p) ≡ short → lost ε ar i (ε .size p) ≡ short →
-        Linked ar (suc i) (ε .decompressor (ε .receive v l b′)) (ε .compressor (ε .send s p b)) es
-    next-here b′ short e k = go (isOn (ε .context l) c) short refl e k
-      where
-        go : (on short : Bool) → isOn (ε .context l) c ≡ on → ltb (ε .room b′) (ε .size p) ≡ short → lost ε ar i (ε .size p) ≡ short →
-            Linked ar (suc i) (ε .decompressor (ε .receive v l b′)) (ε .compressor (ε .send s p b)) es
-        go true true h e k = let m = mark-lost (r .j) ar i _ es h k (r .runs) in
-            record { j = suc (r .j); rel = laws .shorts c (r .j) v s p b l out h (r .rel) (m .0) b′ (ltb-true _ _ e); runs = m .1 }
-        go true false h e k = record { j = 0; rel = laws .takes c (r .j) v s p b l out h (r .rel) b′ (ltb-false _ _ e) .1; runs = mark-kept (r .j) ar i _ es h k (r .runs) }
-        go false short h e k = record { j = r .j; rel = laws .passes c (r .j) v s p b l out h (r .rel) b′; runs = mark-off (r .j) ar i _ es h (r .runs) }
+        world-is : record {
+          compressor = ε .request (w .compressor) q;
+          log = w .log ++ [];
+          decompressor = w .decompressor;
+          line = w .line;
+          saves = w .saves;
+          next = w .next;
+        } ≡ step ε w (requestCall q)
+        world-is = λ i. record {
+          compressor = ε .request (w .compressor) q;
+          log = append-nil (w .log) i;
+          decompressor = w .decompressor;
+          line = w .line;
+          saves = w .saves;
+          next = w .next;
+        }
 
-    right-here : (o : Option ℕ) → ε .context l ≡ o → concerns o c ≡ true → Answers ε p l v
-    right-here none e h b′ = (laws .plains c (r .j) v s p b l out e (r .rel) b′, laws .plainLacks c (r .j) v s p b l out e (r .rel) b′)
-    right-here (some d) e h b′ = (λ k. laws .takes c (r .j) v s p b l out (rw e h) (r .rel) b′ k .0, laws .lacks c (r .j) v s p b l out (rw e h) (r .rel) b′)
+    ---- An arrival
 
-  past : (a : Arrival B) (ar : List (Arrival B)) (i : ℕ) (v : D) (s : C) (es : List (Sent P L)) → a .index < i → Linked (a ∷ ar) i v s es → Linked ar i v s es
-  past a ar i v s es h r = record { j = r .j; rel = r .rel; runs = rw (marks-skip a ar i es h) at (r .runs) }
+    module _ (w : World P L F C D) (i : ℕ) (b : B) (ok : Proper ε n from c w i) where
+      -- a table that was saved waits on
+      stored-arrival : (x : Save F) → Stored (w .log) (w .compressor) (w .next) x → Stored (w .log) (w .compressor) (suc i) x
+      stored-arrival x s = record {
+        table = s .table;
+        back = s .back;
+        tied = record {
+          fine = s .tied .fine;
+          at = s .tied .at;
+          soon = omega (arith, s .tied .soon, ok .order);
+          linked = s .tied .linked;
+        };
+      }
 
-  -- the claim from a state on: es are given out from there, all is what the whole list gives out
-  abbrev pub Goes : List (Sent P L) → C → List (Sent P L) → Type 0
-  Goes all s es = (v : D) (ar : List (Arrival B)) (pre : List (Sent P L)) (i : ℕ) → all ≡ pre ++ es → length pre ≡ i → Asc i ar all → Linked ar i v s es → Good v all ar
+      module _ (k : Kept w) where
+        -- the packets before it that did not arrive are lost
+        reached : Linked laws c from (w .log) (w .compressor) i (w .decompressor) (w .line)
+        reached =
+            linked-reach laws c from (w .log) (w .compressor) (w .decompressor) (w .line) i (i - k .now .at) (k .now .at)
+            (omega (arith, k .now .soon, ok .order)) (omega (arith, ok .sent)) (k .now .linked)
 
-  module _ (s : C) (p : P) (b : B) (all es : List (Sent P L)) (ih : Goes all (ε .compressor (ε .send s p b)) es) where
-    goes-send : (out : Option L) → ε .out (ε .send s p b) ≡ out → Goes all s (logged out p ++ es)
-    goes-send none o v ar pre i e h asc lk = ih v ar pre i e h asc (record { j = lk .j; rel = laws .refuses c _ v s p b o (lk .rel); runs = lk .runs })
-    goes-send (some l) o v [] pre i e h asc lk = tt
-    goes-send (some l) o v (a ∷ ar) pre i e h asc lk = go (eqb (a .index) i) refl
-      where
-        x : Sent P L
-        x = record { orig = p; link = l }
+        answers-arrival : concerns (ε .context (linkAt ε w i)) c ≡ true → Answered ε w i b
+        answers-arrival =
+            answers-next laws c from (w .log) (w .compressor) i (w .decompressor) (w .line) reached (ok .sent) (ok .fit)
+            (k .now .fine) (ok .bounded)
 
-        all′ : all ≡ (pre ++ (x ∷ [])) ++ es
-        all′ = e ∙ sym (append-assoc pre (x ∷ []) es)
+        kept-arrival : Kept (step ε w (arrivalCall i b))
+        kept-arrival = record {
+          now = record {
+            fine = fine-next laws c from (w .log) (w .compressor) i (w .decompressor) (w .line) reached (ok .sent) (ok .fit) b
+                (k .now .fine);
+            at = suc i;
+            soon = omega arith;
+            linked = linked-next laws c from (w .log) (w .compressor) i (w .decompressor) (w .line) reached (ok .sent)
+                (ok .fit) b;
+          };
+          stored = λ m h. stored-arrival (saveAt ε w m) (k .stored m h);
+        }
 
-        longer : length (pre ++ (x ∷ [])) ≡ suc i
-        longer = simp length-append (omega arith)
+    ---- A save, and a load
 
-        here : a .index ≡ i → getD all (a .index) (ε .nothing) ≡ x
-        here q = rw e (getD-at pre x es (ε .nothing) (a .index) (h ∙ sym q))
+    module _ (w : World P L F C D) (k : Kept w) where
+      abbrev Held : List (Save F) → Type 0
+      Held xs = (i : ℕ) → i < length xs →
+          Stored (w .log) (w .compressor) (w .next) (getD xs i (record { form = ε .noForm; line = [] }))
 
-        go : (same : Bool) → eqb (a .index) i ≡ same → Good v all (a ∷ ar)
-        go true q = let q′ : a .index ≡ i = eqb-true _ _ q in rw (here q′) (
-          right-here s p b l o es (a ∷ ar) i v lk (ε .context l) refl,
-          ih (ε .decompressor (ε .receive v l (a .buffer))) ar (pre ++ (x ∷ [])) (suc i) all′ longer (rw q′ at (asc .2))
-              (past a ar (suc i) _ _ es (omega arith) (next-here s p b l o es (a ∷ ar) i v lk (a .buffer) (ltb (ε .room (a .buffer)) (ε .size p)) refl (rw q))),
-        )
-        go false q = ih v (a ∷ ar) (pre ++ (x ∷ [])) (suc i) all′ longer (omega (arith, eqb-false), asc .1, asc .2)
-            (next-lost s p b l o es (a ∷ ar) i v lk (rw (q, lt-ltb i (a .index) (omega (arith, eqb-false)))))
+      held-more : (x : Save F) → Stored (w .log) (w .compressor) (w .next) x → Held (w .saves ++ (x ∷ []))
+      held-more x s i h = by (decLe (suc i) (length (w .saves)))
+        where
+          by : Dec (suc i ≤ length (w .saves)) →
+              Stored (w .log) (w .compressor) (w .next) (getD (w .saves ++ (x ∷ [])) i (record { form = ε .noForm; line = [] }))
+          by (yes l) = rw (List·getD-append (w .saves) (x ∷ []) (record { form = ε .noForm; line = [] }) i l) (k .stored i l)
+          by (no l) =
+              let q = length-append (w .saves) (x ∷ []) in
+              let e : length (w .saves) ≡ i = omega arith in
+              rw (getD-at (w .saves) x [] (record { form = ε .noForm; line = [] }) i e) s
 
-  goes-nothing : (s : C) (all : List (Sent P L)) → Goes all s []
-  goes-nothing s all v [] pre i e h asc lk = tt
-  goes-nothing s all v (a ∷ ar) pre i e h asc lk =
-      let k : length all ≡ i = ap length e ∙ simp length-append (omega arith) in absurd (omega arith)
+      held-save : (b : B) (o : Option F) → ε .save (w .decompressor) b ≡ o → Held (w .saves ++ saved o (w .line))
+      held-save b none e = rw (append-nil (w .saves)) (k .stored)
+      held-save b (some f) e =
+          held-more (record { form = f; line = w .line })
+          (record { table = w .decompressor; back = laws .loads (w .decompressor) b f (k .now .fine) e; tied = k .now })
 
-  -- Whatever the sends of a list give out, and any arrivals of it in order. (The list's own arrivals do not bear on it, and the relation at no other context does.)
-  pub goes : (all : List (Sent P L)) (cs : List (Call P B Q)) (s : C) → Goes all s (sends ε s cs)
-  goes all [] s = goes-nothing s all
-  goes all (sendCall p b ∷ cs) s = goes-send s p b all (sends ε (ε .compressor (ε .send s p b)) cs) (goes all cs (ε .compressor (ε .send s p b))) (ε .out (ε .send s p b)) refl
-  goes all (requestCall q ∷ cs) s = λ v ar pre i e h asc lk. goes all cs (ε .request s q) v ar pre i e h asc
-      (record { j = lk .j; rel = laws .asks c _ v s q (lk .rel); runs = lk .runs })
-  goes all (arrivalCall i b ∷ cs) s = goes all cs s
-  goes all (otherCall ∷ cs) s = goes all cs s
+      kept-save : (b : B) → Kept (step ε w (saveCall b))
+      kept-save b = record { now = k .now; stored = held-save b (ε .save (w .decompressor) b) refl }
 
-  pub core : (cs : List (Call P B Q)) (s : C) (v : D) (ar : List (Arrival B)) → Rel c 0 v s → Asc 0 ar (sends ε s cs) → Bounded n (marks ε c ar 0 (sends ε s cs)) → Good v (sends ε s cs) ar
-  core cs s v ar start asc bounded = goes (sends ε s cs) cs s v ar [] 0 refl refl asc (record { j = 0; rel = start; runs = bounded-runs n 0 _ (omega arith) bounded })
+      kept-load : (i : ℕ) (d : D) → i < length (w .saves) → Kept (step ε w (loadCall i d))
+      kept-load i d h = record {
+        now = subst (λ (v : D). Tied (w .log) (w .compressor) (w .next) v (saveAt ε w i .line)) (sym (k .stored i h .back d))
+            (k .stored i h .tied);
+        stored = k .stored;
+      }
 
--- All contexts.
-module _ {P L B Q C D SA RA : Type 0} (n : ℕ) (ε : Ends P L B Q C D SA RA) (Rel : ℕ → ℕ → D → C → Type 0) (laws : Laws n ε Rel) where
+    ---- Every call of a list
+
+    abbrev pub Settled : World P L F C D → (i : ℕ) (b : B) → Type 0
+    Settled w i b = concerns (ε .context (linkAt ε w i)) c ≡ true → Answered ε w i b
+
+    goes-on : (w : World P L F C D) (x : Call P B Q D) → Kept w → Allowed ε n from c w x →
+        AtArrival ε Settled w x × Kept (step ε w x)
+    goes-on w (sendCall p b) k ok = (tt, kept-send w p b k)
+    goes-on w (requestCall q) k ok = (tt, kept-request w q k)
+    goes-on w (arrivalCall i b) k ok = (answers-arrival w i b ok k, kept-arrival w i b ok k)
+    goes-on w (saveCall b) k ok = (tt, kept-save w k b)
+    goes-on w (loadCall i d) k ok = (tt, kept-load w k i d ok)
+    goes-on w otherCall k ok = (tt, k)
+
+    pub goes : (xs : List (Call P B Q D)) (w : World P L F C D) → Kept w → Always ε (Allowed ε n from c) w xs →
+        Always ε (AtArrival ε Settled) w xs
+    goes = always-keep ε (Allowed ε n from c) (AtArrival ε Settled) Kept goes-on
+
+  ---- All contexts
+
   -- the context by which an arrival is judged
   abbrev judge : Option ℕ → ℕ
   judge none = 0
@@ -214,98 +192,33 @@ module _ {P L B Q C D SA RA : Type 0} (n : ℕ) (ε : Ends P L B Q C D SA RA) (R
   judges none = refl
   judges (some d) = eq-eqb d d refl
 
-  -- all that is given out in the end
-  log-end : (cs : List (Call P B Q)) (w : World P L C D) → (final ε w cs) .log ≡ w .log ++ sends ε (w .compressor) cs
-  log-end [] w = sym (append-nil (w .log))
-  log-end (sendCall p b ∷ cs) w = log-end cs (step ε w (sendCall p b)) ∙ append-assoc (w .log) _ _
-  log-end (requestCall q ∷ cs) w = log-end cs (step ε w (requestCall q))
-  log-end (arrivalCall i b ∷ cs) w = log-end cs (step ε w (arrivalCall i b))
-  log-end (otherCall ∷ cs) w = log-end cs w
+  module _ (s : C) (v : D) (start : Start s) (fine : Fine v) (related : (c : ℕ) → Rel c 0 v s) where
+    kept-fresh : (c : ℕ) → Kept c 0 (fresh ε s v)
+    kept-fresh c = record {
+      now = record {
+        fine = fine;
+        at = 0;
+        soon = omega arith;
+        linked = record {
+          least = omega arith;
+          most = omega arith;
+          state = s;
+          start = start;
+          trail = stays s;
+          below = λ m h. refl;
+          near = λ h. related c;
+        };
+      };
+      stored = λ i h. absurd (omega arith);
+    }
 
-  ascends : (cs : List (Call P B Q)) (w : World P L C D) (m : ℕ) → Lawful ε w m cs → Asc m (arrivals ε cs) ((final ε w cs) .log)
-  ascends [] w m law = tt
-  ascends (sendCall p b ∷ cs) w m law = ascends cs (step ε w (sendCall p b)) m law
-  ascends (requestCall q ∷ cs) w m law = ascends cs (step ε w (requestCall q)) m law
-  ascends (otherCall ∷ cs) w m law = ascends cs w m law
-  ascends (arrivalCall i b ∷ cs) w m law =
-      (law .0, rw (log-end cs (step ε w (arrivalCall i b)), length-append) (omega arith), ascends cs (step ε w (arrivalCall i b)) (suc i) (law .2))
+    -- from tables that are related on, every arrival is answered rightly, and so the two ends are faithful
+    pub answered : (xs : List (Call P B Q D)) → ((c : ℕ) → Always ε (Allowed ε n 0 c) (fresh ε s v) xs) →
+        Always ε (AtArrival ε (Answered ε)) (fresh ε s v) xs
+    answered xs ok =
+        arrivals-map ε (λ w i b. (c : ℕ) → Settled c 0 w i b) (Answered ε)
+        (λ w i b h. h (judge (ε .context (linkAt ε w i))) (judges (ε .context (linkAt ε w i)))) xs (fresh ε s v)
+        (arrivals-each ε (λ c. Settled c 0) xs (fresh ε s v) (λ c. goes c 0 xs (fresh ε s v) (kept-fresh c) (ok c)))
 
-  -- from the arrivals in their order back to the calls in theirs
-  module _ (all : List (Sent P L)) where
-    ready-arrival : (i : ℕ) (b : B) (cs : List (Call P B Q)) (w : World P L C D) → i < length (w .log) → all ≡ w .log ++ sends ε (w .compressor) cs →
-        ((c : ℕ) → Good n ε Rel laws c (w .decompressor) all (record { index = i; buffer = b } ∷ arrivals ε cs)) →
-        (((c : ℕ) → Good n ε Rel laws c (ε .decompressor (arrived ε w i b)) all (arrivals ε cs)) → Ready ε (step ε w (arrivalCall i b)) cs) →
-        Ready ε w (arrivalCall i b ∷ cs)
-    ready-arrival i b cs w short e good ih = (now (judge o) .0 (judges o), ih (λ c. now c .1))
-      where
-        o : Option ℕ
-        o = ε .context ((getD (w .log) i (ε .nothing)) .link)
-
-        here : getD all i (ε .nothing) ≡ getD (w .log) i (ε .nothing)
-        here = rw e (List·getD-append (w .log) _ (ε .nothing) i short)
-
-        now : (c : ℕ) → (concerns (ε .context ((getD (w .log) i (ε .nothing)) .link)) c ≡ true → Answers ε (packetAt ε w i) ((getD (w .log) i (ε .nothing)) .link) (w .decompressor))
-            × Good n ε Rel laws c (ε .decompressor (arrived ε w i b)) all (arrivals ε cs)
-        now c = rw here at (good c)
-
-    ready-of : (cs : List (Call P B Q)) (w : World P L C D) (m : ℕ) → Lawful ε w m cs →
-        all ≡ w .log ++ sends ε (w .compressor) cs → ((c : ℕ) → Good n ε Rel laws c (w .decompressor) all (arrivals ε cs)) → Ready ε w cs
-    ready-of [] w m law e good = tt
-    ready-of (sendCall p b ∷ cs) w m law e good = ready-of cs (step ε w (sendCall p b)) m law (e ∙ sym (append-assoc (w .log) _ _)) good
-    ready-of (requestCall q ∷ cs) w m law e good = ready-of cs (step ε w (requestCall q)) m law e good
-    ready-of (otherCall ∷ cs) w m law e good = ready-of cs w m law e good
-    ready-of (arrivalCall i b ∷ cs) w m law e good = ready-arrival i b cs w (law .1) e good (ready-of cs (step ε w (arrivalCall i b)) (suc i) (law .2) e)
-
-  -- two ends that start related are ready for every arrival
-  pub ready : (s : C) (v : D) → ((c : ℕ) → Rel c 0 v s) → (cs : List (Call P B Q)) →
-      let w : World P L C D = record { compressor = s; decompressor = v; log = [] } in
-      Lawful ε w 0 cs → ((c : ℕ) → Bounded n (marks ε c (arrivals ε cs) 0 ((final ε w cs) .log))) → Ready ε w cs
-  ready s v start cs law bounded = ready-of (sends ε s cs) cs w 0 law refl
-      (λ c. core n ε Rel laws c cs s v (arrivals ε cs) (start c) (rw (log-end cs w) at (ascends cs w 0 law)) (rw (log-end cs w) at (bounded c)))
-    where
-      w : World P L C D
-      w = record { compressor = s; decompressor = v; log = [] }
-
--- An arrival that is not lost has room, so ends that are ready are exact.
-module _ {P L B Q C D SA RA : Type 0} (ε : Ends P L B Q C D SA RA) where
-  module _ (whole : List (Arrival B)) where
-    exact-arrival : (i : ℕ) (b : B) (cs : List (Call P B Q)) (w : World P L C D) → lost ε whole i (ε .size (packetAt ε w i)) ≡ lost ε (record { index = i; buffer = b } ∷ arrivals ε cs) i (ε .size (packetAt ε w i)) →
-        Answers ε (packetAt ε w i) ((getD (w .log) i (ε .nothing)) .link) (w .decompressor) →
-        lost ε whole i (ε .size (packetAt ε w i)) ≡ false → ε .Right (packetAt ε w i) (arrived ε w i b)
-    exact-arrival i b cs w same right f =
-        let room-is : lost ε whole i (ε .size (packetAt ε w i)) ≡ ltb (ε .room b) (ε .size (packetAt ε w i)) = same ∙ rw (eq-eqb i i refl) in
-        right b .0 (ltb-false _ _ (sym room-is ∙ f))
-
-    exact-of : (cs : List (Call P B Q)) (w : World P L C D) (m : ℕ) → Lawful ε w m cs →
-        ((k len : ℕ) → m ≤ k → lost ε whole k len ≡ lost ε (arrivals ε cs) k len) → Ready ε w cs → Exact ε whole w cs
-    exact-of [] w m law same r = tt
-    exact-of (sendCall p b ∷ cs) w m law same r = exact-of cs (step ε w (sendCall p b)) m law same r
-    exact-of (requestCall q ∷ cs) w m law same r = exact-of cs (step ε w (requestCall q)) m law same r
-    exact-of (otherCall ∷ cs) w m law same r = exact-of cs w m law same r
-    exact-of (arrivalCall i b ∷ cs) w m law same r = (
-      exact-arrival i b cs w (same i (ε .size (packetAt ε w i)) (law .0)) (r .0),
-      exact-of cs (step ε w (arrivalCall i b)) (suc i) (law .2) (λ k len h. same k len (omega (arith, law .0)) ∙ lost-earlier ε (record { index = i; buffer = b }) (arrivals ε cs) k len h) (r .1),
-    )
-
--- Two ends that start related are faithful.
-module _ {P L B Q C D SA RA : Type 0} (n : ℕ) (ε : Ends P L B Q C D SA RA) (Rel : ℕ → ℕ → D → C → Type 0) (laws : Laws n ε Rel) where
-  pub faithful : (s : C) (v : D) → ((c : ℕ) → Rel c 0 v s) → Faithful ε n s v
-  faithful s v start cs law bounded =
-      exact-of ε (arrivals ε cs) cs (record { compressor = s; decompressor = v; log = [] }) 0 law (λ k len h. refl) (ready n ε Rel laws s v start cs law bounded)
-
--- a list's sends and requests
-abbrev pub quiet : {P B Q : Type 0} → List (Call P B Q) → List (Call P B Q)
-quiet [] = []
-quiet (sendCall p b ∷ cs) = sendCall p b ∷ quiet cs
-quiet (requestCall q ∷ cs) = requestCall q ∷ quiet cs
-quiet (arrivalCall i b ∷ cs) = quiet cs
-quiet (otherCall ∷ cs) = quiet cs
-
-module _ {P L B Q C D SA RA : Type 0} (ε : Ends P L B Q C D SA RA) where
-  -- what a list gives out depends on its sends and requests alone
-  pub same-out : (cs : List (Call P B Q)) (s : C) → sends ε s cs ≡ sends ε s (quiet cs)
-  same-out [] s = refl
-  same-out (sendCall p b ∷ cs) s = ap {B = List (Sent P L)} (λ r. logged (ε .out (ε .send s p b)) p ++ r) (same-out cs (ε .compressor (ε .send s p b)))
-  same-out (requestCall q ∷ cs) s = same-out cs (ε .request s q)
-  same-out (arrivalCall i b ∷ cs) s = same-out cs s
-  same-out (otherCall ∷ cs) s = same-out cs s
+    pub faithful : Faithful ε n s v
+    faithful xs ok = arrivals-map ε (Answered ε) (Exact ε) (λ w i b h. h b .0) xs (fresh ε s v) (answered xs ok)

@@ -7,7 +7,6 @@ use mathlib.Core.List.{List}
 use native.Mathlib.Omega.{arith}
 use lib.ListN.{getD}
 use Rattle.context.specs.declared.compressor.CompressorContext.{CompressorContext}
-use Rattle.compressor.specs.declared.lookup.Found.{Found}
 use Rattle.compressor.specs.declared.lookup.Found.the-variants.{At, Nowhere}
 use Rattle.compressor.specs.Table.{noContext}
 use Rattle.compressor.specs.Lookup.{lowest}
@@ -29,6 +28,7 @@ lowest-found p cs i zero j e = let z : _≡_ {A = ℕ} 0 1 = cc in absurd (omega
 lowest-found p cs i (suc left) j e = by (p (getD cs i noContext)) refl e (lowest-found p cs (i + 1) left j)
   where
     by : (b : Bool) → p (getD cs i noContext) ≡ b → cond b (At i) (lowest p cs (i + 1) left) ≡ At j
-        → (lowest p cs (i + 1) left ≡ At j → (j < i + 1 + left) × (p (getD cs j noContext) ≡ true)) → (j < i + suc left) × (p (getD cs j noContext) ≡ true)
+        → (lowest p cs (i + 1) left ≡ At j → (j < i + 1 + left) × (p (getD cs j noContext) ≡ true))
+        → (j < i + suc left) × (p (getD cs j noContext) ≡ true)
     by true q f ih = let z : i ≡ j = cc in rw (← z) (omega arith, q)
     by false q f ih = let r = ih f in (omega arith, r .1)

@@ -13,8 +13,9 @@ use Rattle.headers.specs.CompressibleLaws.{compressible-size}
 use Rattle.settings.specs.SettingsLaws.{range-repeats, range-most}
 use Rattle.context.specs.Sound.{soundCompressor}
 use Rattle.compressor.specs.declared.table.Table.{Table}
-use Rattle.compressor.specs.Table.{noContext, contextAt, soundOf, Sound}
+use Rattle.compressor.specs.Table.{noContext, contextAt}
 use Rattle.context.proofs.AllLaws.{all-at}
+use Rattle.compressor.specs.Table.{Sound}
 use Rattle.compressor.specs.TableLaws.{soundOf-true}
 use Rattle.compressor.specs.SendLaws.{On}
 use Rattle.compressor.specs.Ready.{Ready}
@@ -46,5 +47,6 @@ module _ (t : Table) (p : List ℕ) (i : ℕ) (n : length (t .contexts) ≡ 64) 
         place = among;
         whole = compressible-size p (o .compressible);
         most = o .most;
-        writable = writable-stepOn (t .settings .repeats) (headerOf p) (headerOf-range bytes) (contextAt t i) (sound-contextAt t s n i among);
+        writable = writable-stepOn (t .settings .repeats) (headerOf p) (headerOf-range bytes) (contextAt t i)
+            (sound-contextAt t s n i among);
       }

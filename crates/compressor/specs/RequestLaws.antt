@@ -1,33 +1,38 @@
 -- Iarwennol. Laws of a request. Assume nothing.
 -- Used by the proofs of request, and by the theorem on lists of calls (crtp).
-use Prim.Native.Nat.{ℕ, zero, suc, _+_, _≤_, _<_}
+use Prim.Native.Nat.{ℕ, zero, suc, _+_, _<_}
 use mathlib.Core.Path.{_≡_, refl, sym, ap, _∙_}
 use mathlib.Core.Bool.{Bool, true, false, cond}
 use mathlib.Core.List.{List, [], _∷_}
 use native.Mathlib.Numerals.{add-one}
 use native.Mathlib.Omega.{arith}
-use native.Mathlib.Decide.{decLe}
-use borrow.Author.Tests.{eqb-true, eqb-false}
-use lib.Dec.{eqb}
 use lib.ListN.{length, getD, set, drop, length-set, length-drop}
-use lib.Seq.{set-getD, getD-set-same, getD-set-other, set-out, getD-drop}
+use lib.Seq.{set-getD, getD-drop}
 use Rattle.links.specs.Cs.{recordCount, recordContext, recordAsks, requestJudged}
 use Rattle.packet.specs.declared.refusal.Verdict.{Verdict}
 use Rattle.packet.specs.declared.refusal.Verdict.the-variants.{Accepted, Refused}
 use Rattle.context.specs.All.{all}
+use Rattle.context.proofs.AllLaws.{all-at}
+use Rattle.context.specs.Compressor.{skips, startedUnlessDue, requestedBy, requested}
+use Rattle.context.proofs.Relation.{Held}
 use Rattle.context.specs.Sound.{soundCompressor}
-use Rattle.context.proofs.CompressorSound.{sound-requested, requested-kept}
-use Rattle.context.specs.Compressor.{requested}
+use Rattle.context.specs.declared.compressor.Usage.{Usage}
+use Rattle.context.specs.declared.compressor.Usage.the-variants.{Empty, Live}
 use Rattle.context.specs.declared.compressor.CompressorContext.{CompressorContext}
+use Rattle.context.proofs.CompressorSound.{sound-requested, requested-kept}
+use Rattle.context.proofs.Ready.{started-held}
+use Rattle.context.proofs.Tests.{cond-both}
 use Rattle.compressor.specs.declared.table.Table.{Table}
 use Rattle.compressor.specs.Answer.{refused}
-use Rattle.compressor.specs.Table.{noContext, contextAt, isEmpty, emptyBy, soundOf, Sound}
-use Rattle.context.proofs.AllLaws.{all-at}
+use Rattle.compressor.specs.Table.{noContext, contextAt, isEmpty, emptyBy, soundOf}
+use Rattle.compressor.specs.Table.{Sound}
+use Rattle.compressor.specs.TableLaws.{set-keeps}
 use Rattle.compressor.specs.Request.{asked, askedAll, requestTable, requestBy, requestOf}
 
 ---- all, by its elements
 
-all-elements : {A : Type 0} (f : A → Bool) (l : List A) (d : A) → ((i : ℕ) → i < length l → f (getD l i d) ≡ true) → all f l ≡ true
+all-elements : {A : Type 0} (f : A → Bool) (l : List A) (d : A) → ((i : ℕ) → i < length l → f (getD l i d) ≡ true)
+    → all f l ≡ true
 all-elements f [] d h = refl
 all-elements f (x ∷ l) d h = rw (h 0 (omega arith)) (all-elements f l d (λ i k. h (suc i) (omega arith)))
 
@@ -47,8 +52,10 @@ askedAll-next n s cs i = sym (ap (λ (k : ℕ). askedAll n s cs k) (add-one i))
 
 -- one record more, for a loop that goes over them
 module _ (n : ℕ) (s : List ℕ) (cs now : List CompressorContext) (i : ℕ) where
-  pub askedAll-more : (asks : Bool) (place : ℕ) (d : CompressorContext) → now ≡ askedAll n s cs i → asks ≡ recordAsks s i → place ≡ recordContext s i
-      → d ≡ cond asks (requested n (getD now place noContext)) (getD now place noContext) → set now place d ≡ askedAll n s cs (i + 1)
+  pub askedAll-more : (asks : Bool) (place : ℕ) (d : CompressorContext) → now ≡ askedAll n s cs i
+      → asks ≡ recordAsks s i → place ≡ recordContext s i
+      → d ≡ cond asks (requested n (getD now place noContext)) (getD now place noContext)
+      → set now place d ≡ askedAll n s cs (i + 1)
   askedAll-more asks place d e a p q = rw (q, asked-set n asks place now) (rw (e, a, p) (askedAll-next n s cs i))
 
 ---- requestOf
@@ -64,7 +71,8 @@ module _ (t : Table) (s : List ℕ) where
   unfolding requestOf
   requestOf-unsound e = rw e
 
-  pub requestOf-judged : (j : Verdict) → soundOf t ≡ true → requestJudged (t .settings .contexts) s ≡ j → requestBy j t s ≡ requestOf t s
+  pub requestOf-judged : (j : Verdict) → soundOf t ≡ true → requestJudged (t .settings .contexts) s ≡ j
+      → requestBy j t s ≡ requestOf t s
   unfolding requestOf
   requestOf-judged j e q = rw (e, q)
 
@@ -72,22 +80,17 @@ module _ (t : Table) (s : List ℕ) where
 
 module _ (n : ℕ) (P : CompressorContext → Type 0) (step : (c : CompressorContext) → P c → P (requested n c)) where
   -- one record, at one place
-  module _ (cs : List CompressorContext) (k i : ℕ) (before : P (getD cs i noContext)) where
-    asked-here : i ≡ k → P (requested n (getD cs k noContext))
-    asked-here e = step (getD cs k noContext) (rw e at before)
+  asked-keeps : (cs : List CompressorContext) (k i : ℕ) (asks : Bool) → P (getD cs i noContext)
+      → P (getD (asked n asks k cs) i noContext)
+  asked-keeps cs k i true before =
+      set-keeps P cs k i (requested n (getD cs k noContext)) (λ e. step (getD cs k noContext) (rw e at before)) before
+  asked-keeps cs k i false before = before
 
-    set-keeps : Dec (suc k ≤ length cs) → (b : Bool) → eqb i k ≡ b → P (getD (set cs k (requested n (getD cs k noContext))) i noContext)
-    set-keeps (no out) b e = rw (set-out cs k (requested n (getD cs k noContext)) (omega arith)) before
-    set-keeps (yes there) true e = rw (eqb-true i k e, getD-set-same cs k (requested n (getD cs k noContext)) noContext there) (asked-here (eqb-true i k e))
-    set-keeps (yes there) false e = rw (getD-set-other cs k i (requested n (getD cs k noContext)) noContext (eqb-false i k e)) before
-
-    asked-keeps : (asks : Bool) → P (getD (asked n asks k cs) i noContext)
-    asked-keeps true = set-keeps (decLe (suc k) (length cs)) (eqb i k) refl
-    asked-keeps false = before
-
-  askedAll-keeps : (s : List ℕ) (cs : List CompressorContext) (m i : ℕ) → P (getD cs i noContext) → P (getD (askedAll n s cs m) i noContext)
+  askedAll-keeps : (s : List ℕ) (cs : List CompressorContext) (m i : ℕ) → P (getD cs i noContext)
+      → P (getD (askedAll n s cs m) i noContext)
   askedAll-keeps s cs zero i before = before
-  askedAll-keeps s cs (suc m) i before = asked-keeps (askedAll n s cs m) (recordContext s m) i (askedAll-keeps s cs m i before) (recordAsks s m)
+  askedAll-keeps s cs (suc m) i before =
+      asked-keeps (askedAll n s cs m) (recordContext s m) i (recordAsks s m) (askedAll-keeps s cs m i before)
 
 length-asked : (n k : ℕ) (cs : List CompressorContext) (asks : Bool) → length (asked n asks k cs) ≡ length cs
 length-asked n k cs true = length-set cs k (requested n (getD cs k noContext))
@@ -95,7 +98,8 @@ length-asked n k cs false = refl
 
 length-askedAll : (n : ℕ) (s : List ℕ) (cs : List CompressorContext) (m : ℕ) → length (askedAll n s cs m) ≡ length cs
 length-askedAll n s cs zero = refl
-length-askedAll n s cs (suc m) = length-asked n (recordContext s m) (askedAll n s cs m) (recordAsks s m) ∙ length-askedAll n s cs m
+length-askedAll n s cs (suc m) =
+    length-asked n (recordContext s m) (askedAll n s cs m) (recordAsks s m) ∙ length-askedAll n s cs m
 
 -- a table after a request: every context as it was, or asked for full headers some number of times
 pub record Asks (t after : Table) : Type 1 where
@@ -126,36 +130,27 @@ asks-sound t s false e = rw e (asks-nothing t)
 pub request-asks : (t : Table) (s : List ℕ) → Asks t (requestOf t s .table)
 request-asks t s = asks-sound t s (soundOf t) refl
 
----- a request refused, and a sound table
-
-refused-by : (t : Table) (s : List ℕ) (j : Verdict) → 1 ≤ requestBy j t s .number → requestBy j t s .table ≡ t
-refused-by t s Accepted h = absurd (omega arith)
-refused-by t s (Refused r) h = refl
-
-refused-sound : (t : Table) (s : List ℕ) (b : Bool) (j : Verdict) → 1 ≤ cond b (requestBy j t s) (refused t 1 []) .number → cond b (requestBy j t s) (refused t 1 []) .table ≡ t
-refused-sound t s true j h = refused-by t s j h
-refused-sound t s false j h = refl
-
-pub request-refused : (t : Table) (s : List ℕ) → 1 ≤ requestOf t s .number → requestOf t s .table ≡ t
-unfolding requestOf
-request-refused t s h = refused-sound t s (soundOf t) (requestJudged (t .settings .contexts) s) h
+---- a sound table
 
 requested-empty : (n : ℕ) (c : CompressorContext) → isEmpty (requested n c) ≡ isEmpty c
 requested-empty n c = ap emptyBy (requested-kept n c .status)
 
 module _ (t after : Table) (a : Asks t after) (s : Sound t) where
-  sound-each : (i : ℕ) → i < length (after .contexts) → soundCompressor (t .settings .repeats) (getD (after .contexts) i noContext) ≡ true
+  sound-each : (i : ℕ) → i < length (after .contexts)
+      → soundCompressor (t .settings .repeats) (getD (after .contexts) i noContext) ≡ true
   sound-each i h =
       a .keeps (λ c. soundCompressor (t .settings .repeats) c ≡ true) (λ c e. sound-requested (t .settings .repeats) c e) i
       (all-at (soundCompressor (t .settings .repeats)) (t .contexts) i noContext (omega (arith, a .size)) (s .contexts))
 
-  empty-each : (i : ℕ) → i < length (drop (t .settings .contexts) (after .contexts)) → isEmpty (getD (drop (t .settings .contexts) (after .contexts)) i noContext) ≡ true
+  empty-each : (i : ℕ) → i < length (drop (t .settings .contexts) (after .contexts))
+      → isEmpty (getD (drop (t .settings .contexts) (after .contexts)) i noContext) ≡ true
   empty-each i h =
       let k = t .settings .contexts in
       let n = length-drop k (after .contexts) in
       let m = length-drop k (t .contexts) in
       let e : isEmpty (getD (t .contexts) (k + i) noContext) ≡ true =
-      rw (getD-drop k (t .contexts) i noContext) at (all-at isEmpty (drop k (t .contexts)) i noContext (omega (arith, a .size)) (s .rest)) in
+      rw (getD-drop k (t .contexts) i noContext)
+      at (all-at isEmpty (drop k (t .contexts)) i noContext (omega (arith, a .size)) (s .rest)) in
       rw (getD-drop k (after .contexts) i noContext)
       (a .keeps (λ c. isEmpty c ≡ true) (λ c e. requested-empty (t .settings .repeats) c ∙ e) (k + i) e)
 
@@ -168,3 +163,20 @@ module _ (t after : Table) (a : Asks t after) (s : Sound t) where
 
 pub sound-request : (t : Table) (s : List ℕ) → Sound t → Sound (requestOf t s .table)
 sound-request t s k = asks-keeps-sound t (requestOf t s .table) (request-asks t s) k
+
+---- numbers within their types
+
+held-unless : (n : ℕ) (c : CompressorContext) → Held c → Held (startedUnlessDue n c)
+unfolding startedUnlessDue
+held-unless n c h = cond-both Held (skips c) _ _ h (started-held n c h)
+
+held-by : (u : Usage) (n : ℕ) (c : CompressorContext) → Held c → Held (requestedBy u n c)
+held-by Empty n c h = h
+held-by Live n c h = held-unless n c h
+
+held-requested : (n : ℕ) (c : CompressorContext) → Held c → Held (requested n c)
+unfolding requested
+held-requested n c h = held-by (c .status) n c h
+
+pub held-request : (t : Table) (s : List ℕ) → ((i : ℕ) → Held (contextAt t i)) → (i : ℕ) → Held (contextAt (requestOf t s .table) i)
+held-request t s held i = request-asks t s .keeps Held (held-requested (t .settings .repeats)) i (held i)

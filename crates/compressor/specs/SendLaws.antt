@@ -1,29 +1,26 @@
 -- Iarwennol. Laws of a send: the ways that it can go, and what it leaves. Assume nothing.
 -- Used by the theorem on lists of calls (crtp).
-use Prim.Native.Nat.{ℕ, zero, suc, _+_, _≤_, _<_}
-use mathlib.Core.Path.{_≡_, refl, sym, ap, _∙_}
+use Prim.Native.Nat.{ℕ, _≤_, _<_}
+use mathlib.Core.Path.{_≡_, refl, _∙_}
 use mathlib.Core.Bool.{Bool, true, false, cond, not, _&&_, and-eq-true-iff}
-use mathlib.Core.List.{List, [], _∷_, _++_}
+use mathlib.Core.List.{List}
 use native.Mathlib.Omega.{arith}
-use native.Mathlib.Nat.{zero-add}
 use borrow.Author.Tests.{leb-true, eqb-true}
-use lib.Dec.{eqb, leb, ltb}
-use lib.ListN.{length, drop}
+use lib.Dec.{leb, ltb}
+use lib.ListN.{length}
 use Rattle.packet.specs.declared.header.Flow.{Flow}
 use Rattle.headers.specs.Header.{headerOf}
 use Rattle.headers.specs.Compressible as headers
 use Rattle.context.specs.declared.compressor.Usage.{Usage}
 use Rattle.context.specs.declared.compressor.Usage.the-variants.{Empty, Live}
-use Rattle.context.specs.declared.compressor.CompressorContext.{CompressorContext}
 use Rattle.context.specs.declared.step.Step.{Step}
 use Rattle.compressor.specs.declared.lookup.Found.{Found}
 use Rattle.compressor.specs.declared.lookup.Found.the-variants.{At, Nowhere}
 use Rattle.compressor.specs.declared.table.Table.{Table}
 use Rattle.compressor.specs.Answer.{Result, accepted, refused, delivered}
-use Rattle.compressor.specs.Table.{noContext, contextAt, withContext, isEmpty, emptyBy, soundOf}
+use Rattle.compressor.specs.Table.{contextAt, withContext, isEmpty, emptyBy, soundOf}
 use Rattle.compressor.specs.Lookup.{sameFlow, isOf, lowest, orElse, placeOf}
 use Rattle.compressor.specs.LookupLaws.{lowest-found}
-use Rattle.settings.specs.Settings.{lengthAllowed}
 use Rattle.compressor.specs.Send.{stepOn, kindNumber, sentBytes, sendAt, sendPlain, sendTo, sendOf}
 
 ---- placeOf
@@ -35,10 +32,10 @@ pub record Place (t : Table) (f : Flow) (i : ℕ) : Type 0 where
 
 sameFlow-true : (a b : Flow) → sameFlow a b ≡ true → a ≡ b
 sameFlow-true a b e =
-    let p4 = and-eq-true-iff (eqb (a .source) (b .source) && eqb (a .destination) (b .destination) && eqb (a .sport) (b .sport) && eqb (a .dport) (b .dport)) (eqb (a .ssrc) (b .ssrc)) .0 e in
-    let p3 = and-eq-true-iff (eqb (a .source) (b .source) && eqb (a .destination) (b .destination) && eqb (a .sport) (b .sport)) (eqb (a .dport) (b .dport)) .0 (p4 .0) in
-    let p2 = and-eq-true-iff (eqb (a .source) (b .source) && eqb (a .destination) (b .destination)) (eqb (a .sport) (b .sport)) .0 (p3 .0) in
-    let p1 = and-eq-true-iff (eqb (a .source) (b .source)) (eqb (a .destination) (b .destination)) .0 (p2 .0) in
+    let p4 = and-eq-true-iff _ _ .0 e in
+    let p3 = and-eq-true-iff _ _ .0 (p4 .0) in
+    let p2 = and-eq-true-iff _ _ .0 (p3 .0) in
+    let p1 = and-eq-true-iff _ _ .0 (p2 .0) in
     λ i. record {
       source = eqb-true (a .source) (b .source) (p1 .0) i;
       destination = eqb-true (a .destination) (b .destination) (p1 .1) i;
@@ -63,13 +60,14 @@ module _ (t : Table) (f : Flow) (i : ℕ) where
       let r = lowest-found isEmpty (t .contexts) 0 (t .settings .contexts) i e in
       record { among = omega arith; flow = λ live. absurd (live-empty (contextAt t i .status) live (r .1)) }
 
-  place-either : (a b : Found) → lowest (isOf f) (t .contexts) 0 (t .settings .contexts) ≡ a → lowest isEmpty (t .contexts) 0 (t .settings .contexts) ≡ b → orElse a b ≡ At i → Place t f i
+  place-either : (a b : Found) → lowest (isOf f) (t .contexts) 0 (t .settings .contexts) ≡ a
+      → lowest isEmpty (t .contexts) 0 (t .settings .contexts) ≡ b → orElse a b ≡ At i → Place t f i
   place-either (At k) b p q e = place-of (p ∙ e)
   place-either Nowhere b p q e = place-empty (q ∙ e)
 
   pub placeOf-found : placeOf t f ≡ At i → Place t f i
   unfolding placeOf
-  placeOf-found e = place-either (lowest (isOf f) (t .contexts) 0 (t .settings .contexts)) (lowest isEmpty (t .contexts) 0 (t .settings .contexts)) refl refl e
+  placeOf-found e = place-either (lowest (isOf f) (t .contexts) 0 (t .settings .contexts)) _ refl refl e
 
 ---- sendOf
 
@@ -80,12 +78,21 @@ pub record On (t : Table) (p : List ℕ) (i : ℕ) : Type 0 where
   pub most : length p ≤ 1500
   pub place : Place t (headerOf p .flow) i
 
+-- its step on context i, the table that this leaves, the type and the bytes that go out
 abbrev pub stepAt : Table → List ℕ → ℕ → Step
 stepAt t p i = stepOn (t .settings .repeats) (headerOf p) (contextAt t i)
 
+abbrev pub tableAt : Table → List ℕ → ℕ → Table
+tableAt t p i = withContext t i (stepAt t p i .context)
+
+abbrev pub kindAt : Table → List ℕ → ℕ → ℕ
+kindAt t p i = kindNumber (stepAt t p i .kind)
+
+abbrev pub bytesAt : Table → List ℕ → ℕ → List ℕ
+bytesAt t p i = sentBytes i p (headerOf p) (stepAt t p i)
+
 abbrev pub sentOn : Table → (p output : List ℕ) → ℕ → Result
-sentOn t p output i =
-    accepted (withContext t i (stepAt t p i .context)) (kindNumber (stepAt t p i .kind)) (sentBytes i p (headerOf p) (stepAt t p i)) output
+sentOn t p output i = accepted (tableAt t p i) (kindAt t p i) (bytesAt t p i) output
 
 -- the ways that a send can go
 pub data Goes (t : Table) (p output : List ℕ) : Result → Type 0 where
@@ -94,7 +101,8 @@ pub data Goes (t : Table) (p output : List ℕ) : Result → Type 0 where
   goes-on : (i : ℕ) → On t p i → Goes t p output (sentOn t p output i)
 
 module _ (t : Table) (p output : List ℕ) where
-  goes-delivered : (after : Table) (kind : ℕ) (bytes : List ℕ) → Goes t p output (accepted after kind bytes output) → Goes t p output (delivered t after kind bytes output)
+  goes-delivered : (after : Table) (kind : ℕ) (bytes : List ℕ) → Goes t p output (accepted after kind bytes output)
+      → Goes t p output (delivered t after kind bytes output)
   goes-delivered after kind bytes g = by (ltb (length output) (length bytes))
     where
       by : (b : Bool) → Goes t p output (cond b (refused t 11 output) (accepted after kind bytes output))
@@ -103,23 +111,27 @@ module _ (t : Table) (p output : List ℕ) where
 
   goes-at : (i : ℕ) → On t p i → Goes t p output (sendAt t i p output)
   unfolding sendAt
-  goes-at i o = goes-delivered (withContext t i (stepAt t p i .context)) (kindNumber (stepAt t p i .kind)) (sentBytes i p (headerOf p) (stepAt t p i)) (goes-on i o)
+  goes-at i o = goes-delivered (tableAt t p i) (kindAt t p i) (bytesAt t p i) (goes-on i o)
 
   module _ (sound : soundOf t ≡ true) (least : 1 ≤ length p) (most : length p ≤ 1500) where
     goes-unchanged : Goes t p output (sendPlain t p output)
     goes-unchanged = goes-delivered t 0 p (goes-plain sound least most)
 
     goes-to : headers.compressible p ≡ true → (x : Found) → placeOf t (headerOf p .flow) ≡ x → Goes t p output (sendTo x t p output)
-    goes-to e (At i) q = goes-at i (record { sound = sound; compressible = e; most = most; place = placeOf-found t (headerOf p .flow) i q })
+    goes-to e (At i) q =
+        goes-at i (record { sound = sound; compressible = e; most = most; place = placeOf-found t (headerOf p .flow) i q })
     goes-to e Nowhere q = goes-unchanged
 
-    goes-by : (b : Bool) → headers.compressible p ≡ b → Goes t p output (cond b (sendTo (placeOf t (headerOf p .flow)) t p output) (sendPlain t p output))
+    goes-by : (b : Bool) → headers.compressible p ≡ b
+        → Goes t p output (cond b (sendTo (placeOf t (headerOf p .flow)) t p output) (sendPlain t p output))
     goes-by true e = goes-to e (placeOf t (headerOf p .flow)) refl
     goes-by false e = goes-unchanged
 
   goes-sized : (s a b : Bool) → soundOf t ≡ s → leb 1 (length p) ≡ a → leb (length p) 1500 ≡ b → Goes t p output
       (cond s
-      (cond (a && b) (cond (headers.compressible p) (sendTo (placeOf t (headerOf p .flow)) t p output) (sendPlain t p output)) (refused t 2 output))
+      (cond (a && b)
+      (cond (headers.compressible p) (sendTo (placeOf t (headerOf p .flow)) t p output) (sendPlain t p output))
+      (refused t 2 output))
       (refused t 1 output))
   goes-sized false a b e x y = goes-refused 1 (omega arith)
   goes-sized true true true e x y = goes-by e (leb-true _ _ x) (leb-true _ _ y) (headers.compressible p) refl

@@ -1,24 +1,25 @@
--- Iarwennol. Laws of the compressor's table: what it takes to stay sound. Assume nothing.
+-- Iarwennol. Laws of the compressor's table: what it takes to stay sound, and what an opening gives. Assume nothing.
 -- Used by the laws of send and request, and by the theorem on lists of calls (crtp).
-use Prim.Native.Nat.{ℕ, zero, suc, _+_, _-_, _<_, _≤_}
-use mathlib.Core.Path.{_≡_, refl, sym, _∙_}
+use Prim.Native.Nat.{ℕ, suc, _-_, _<_, _≤_}
+use mathlib.Core.Path.{_≡_, refl}
 use mathlib.Core.Bool.{Bool, true, false, cond, _&&_, and-eq-true-iff}
-use mathlib.Core.List.{List, [], _∷_}
+use mathlib.Core.List.{List}
 use native.Mathlib.Omega.{arith}
+use native.Mathlib.Decide.{decLe}
+use borrow.Author.Tests.{eqb-true, eqb-false}
+use lib.Dec.{eqb}
 use lib.ListN.{length, getD, set, drop, replicate}
-use lib.Seq.{drop-set-lt}
+use lib.Seq.{drop-set-lt, getD-set-same, getD-set-other, set-out}
 use Rattle.settings.specs.Settings as settings
-use Rattle.settings.specs.SettingsLaws.{range-repeats, range-least, range-most}
 use Rattle.settings.specs.declared.Settings.{Settings}
 use Rattle.settings.specs.declared.Opened.the-variants as opened
 use Rattle.context.specs.All.{all}
-use Rattle.context.proofs.AllLaws.{all-at, all-set, all-replicate, all-dropped}
+use Rattle.context.proofs.AllLaws.{all-set, all-replicate, all-dropped}
 use Rattle.context.specs.Sound.{soundCompressor, emptyCompressor}
 use Rattle.context.proofs.CompressorSound.{sound-empty}
 use Rattle.context.specs.declared.compressor.CompressorContext.{CompressorContext}
 use Rattle.compressor.specs.declared.table.Table.{Table}
-use Rattle.compressor.specs.Table.{noContext, contextAt, withContext, isEmpty, soundOf, Sound}
-use Rattle.compressor.specs.Table.{emptyTable, unopened, openOf, openBy}
+use Rattle.compressor.specs.Table.{noContext, withContext, isEmpty, soundOf, emptyTable, unopened, openOf, openBy, Sound}
 
 ---- soundOf
 
@@ -30,12 +31,25 @@ module _ (t : Table) where
   unfolding soundOf
   soundOf-true e =
       let p = and-eq-true-iff firstTwo (all isEmpty (drop (t .settings .contexts) (t .contexts))) .0 e in
-      let q = and-eq-true-iff (settings.sound (t .settings)) (all (soundCompressor (t .settings .repeats)) (t .contexts)) .0 (p .0) in
+      let q = and-eq-true-iff (settings.sound (t .settings)) _ .0 (p .0) in
       record { settings = q .0; contexts = q .1; rest = p .1 }
 
   pub soundOf-made : Sound t → soundOf t ≡ true
   unfolding soundOf
   soundOf-made s = rw (s .settings, s .contexts, s .rest)
+
+---- withContext
+
+-- what holds of the context at place i holds still when the one at place k is replaced, if it holds of the new one where i is k
+module _ (P : CompressorContext → Type 0) (cs : List CompressorContext) (k i : ℕ) (c : CompressorContext) (new : i ≡ k → P c)
+    (before : P (getD cs i noContext)) where
+  set-keeps-by : Dec (suc k ≤ length cs) → (b : Bool) → eqb i k ≡ b → P (getD (set cs k c) i noContext)
+  set-keeps-by (no out) b e = rw (set-out cs k c (omega arith)) before
+  set-keeps-by (yes there) true e = rw (eqb-true i k e, getD-set-same cs k c noContext there) (new (eqb-true i k e))
+  set-keeps-by (yes there) false e = rw (getD-set-other cs k i c noContext (eqb-false i k e)) before
+
+  pub set-keeps : P (getD (set cs k c) i noContext)
+  set-keeps = set-keeps-by (decLe (suc k) (length cs)) (eqb i k) refl
 
 -- a sound table stays sound when a context that the settings give is replaced by a sound one
 pub sound-withContext : (t : Table) (i : ℕ) (c : CompressorContext) → Sound t → i < t .settings .contexts
@@ -46,7 +60,8 @@ sound-withContext t i c s h e = record {
   rest = rw (drop-set-lt (t .settings .contexts) (t .contexts) i c h) (s .rest);
 }
 
--- an accepted opening is sound
+---- emptyTable, openOf
+
 pub sound-emptyTable : (s : Settings) → settings.sound s ≡ true → Sound (emptyTable s)
 unfolding emptyCompressor
 sound-emptyTable s e = record {
@@ -68,6 +83,9 @@ module _ (t : Table) (n k : ℕ) where
   pub openOf-accepted : openOf t n k .number ≡ 0 → (settings.inRange n k ≡ true) × (openOf t n k .table ≡ emptyTable chosen)
   unfolding openOf settings.openOf
   openOf-accepted e = openBy-accepted (settings.inRange n k) e
+
+  pub sound-openOf : openOf t n k .number ≡ 0 → Sound (openOf t n k .table)
+  sound-openOf e = let p = openOf-accepted e in rw (p .1) (sound-emptyTable chosen (p .0))
 
 pub unsound-unopened : soundOf unopened ≡ false
 unfolding soundOf

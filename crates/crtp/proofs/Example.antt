@@ -1,17 +1,17 @@
 -- Iarwennol. The list of specs/Example.antt meets the premises, and its answers are computed. Assumes nothing.
 -- So the theorem is about something: a lost full header, a lost CU, an arrival without room, a late arrival, a plain packet.
-use Prim.Native.Nat.{ℕ, zero, suc, _≤_, _<_}
-use mathlib.Core.Path.{_≡_, refl, sym, ap, _∙_}
-use mathlib.Core.Bool.{Bool, true, false, cond, _&&_, and-eq-true-iff}
-use mathlib.Core.List.{List, [], _∷_, _++_}
-use native.Mathlib.Omega.{arith}
+use Prim.Native.Nat.{ℕ, _≤_}
+use mathlib.Core.Path.{_≡_, refl}
+use mathlib.Core.Bool.{Bool, true, false, and-eq-true-iff}
+use mathlib.Core.List.{List, [], _∷_}
 use borrow.Author.Tests.{ltb-true, eqb-true}
 use lib.Dec.{eqb, ltb, lit≤}
-use lib.ListN.{length, take, replicate}
+use lib.ListN.{replicate}
 use Rattle.codes.specs.Bytes.{AllBytes, none, more}
 use Rattle.compressor.specs.Table as compressing
 use Rattle.decompressor.specs.Table as decompressing
 use Rattle.settings.specs.Settings as settings
+use Rattle.settings.specs.declared.Settings.{Settings}
 use Rattle.bytes.specs.Sum.{plus}
 use Rattle.codes.specs.Code.{codeOf}
 use Rattle.codes.specs.Difference.{difference, sum, hasCode}
@@ -19,10 +19,15 @@ use Rattle.codes.specs.Reading.{readByte, readWord, readLong, readBy}
 use Rattle.compressor.specs.Lookup.{placeOf}
 use Rattle.compressor.specs.Request.{requestOf}
 use Rattle.compressor.specs.Send.{stepOn, linkBytes, sendAt, sendOf}
-use Rattle.context.specs.Compressor.{first, started, sameConstants, begun, startedUnlessDue, requested, reset, adoptsId, adoptsTimestamp, judged, dueNow, anyDue, kindOf, listIf, partsOf, dueAfter, deltasAfter, moved, sentWith, stepOf, firstStep}
-use Rattle.context.specs.Decompressor.{filled, gapVerdict, ipAfter, rtpAfter, deltasHeld, advanced, broke, settled, applied, rebuilt}
+use Rattle.context.specs.Compressor.{first, started, sameConstants, begun, startedUnlessDue, requested, reset, adoptsId}
+use Rattle.context.specs.Compressor.{adoptsTimestamp, judged, dueNow, anyDue, kindOf, listIf, partsOf, dueAfter, deltasAfter, moved}
+use Rattle.context.specs.Compressor.{sentWith, stepOf, firstStep}
+use Rattle.context.specs.Decompressor.{filled, gapVerdict, ipAfter, rtpAfter, deltasHeld, advanced, broke}
+use Rattle.context.specs.Decompressor.{settled, applied, rebuilt}
 use Rattle.context.specs.Field.{nextSequence, nextGeneration, offPattern, counted, isDue, gap, movedOn}
-use Rattle.context.specs.Sound.{soundList, soundLink, soundDue, zeroList, usedSound, unusedSound, soundCompressorBy, soundCompressor, filledSound, unfilledSound, soundDecompressorBy, soundDecompressor, emptyCompressor, emptyDecompressor}
+use Rattle.context.specs.Sound.{soundList, soundLink, soundDue, zeroList, usedSound, unusedSound, soundCompressorBy}
+use Rattle.context.specs.Sound.{soundCompressor, filledSound, unfilledSound, soundDecompressorBy, soundDecompressor}
+use Rattle.context.specs.Sound.{emptyCompressor, emptyDecompressor}
 use Rattle.decompressor.specs.Receive.{receiveFull, receiveOld, receiveCompressed, receiveKind, receiveBy}
 use Rattle.fields.specs.Next.{next, readPayload, nextByte, nextWord, nextLong, nextDelta16, nextDelta32, nextPayload}
 use Rattle.headers.specs.Checksum.{ipChecksumOf, ipChecksum}
@@ -34,7 +39,8 @@ use Rattle.links.specs.Cu.{cuBytes, changesOf, valuesOf, cuRest, cuOf}
 use Rattle.links.specs.Fh.{fhBytes, fieldsForm, fhJudged, fhOf}
 use Rattle.links.specs.Head.{headOf}
 use Rattle.packet.specs.Csrc.{sameList}
-use Rattle.crtp.specs.Robust.{Bytes, Call, send, request, arrival, other, World, Sent, step, after, Ordered, losses, Bounded, Opened, Premises}
+use Rattle.crtp.specs.Robust.{Bytes, Call, send, request, arrival, other, World, Sent, after, Ordered, losses, Bounded}
+use Rattle.crtp.specs.Robust.{Opened, Premises}
 use Rattle.crtp.proofs.Calm.{bounded-calm}
 use Rattle.crtp.specs.Example.{areBytes, packet0, packet1, packet2, packet3, packet4, packet5, odd, asks, Shown, answers}
 
@@ -53,8 +59,11 @@ wide = bytes (replicate 44 0xAA) refl
 abbrev narrow : Bytes
 narrow = bytes (replicate 10 0xAA) refl
 
+abbrev chosen : Settings
+chosen = record { repeats = 1; contexts = 2 }
+
 abbrev start : World
-start = record { compressor = compressing.emptyTable (record { repeats = 1; contexts = 2 }); decompressor = decompressing.emptyTable (record { repeats = 1; contexts = 2 }); sent = [] }
+start = record { compressor = compressing.emptyTable chosen; decompressor = decompressing.emptyTable chosen; sent = [] }
 
 abbrev list : List Call
 list =
@@ -77,34 +86,46 @@ list =
 abbrev shown : ℕ → List ℕ → Shown
 shown n b = record { number = n; bytes = b }
 
-answers-are : answers start list ≡ shown 0 packet1 ∷ shown 0 packet3 ∷ shown 11 [] ∷ shown 0 packet5 ∷ shown 0 odd ∷ []
-unfolding compressing.soundOf decompressing.soundOf plus codeOf difference sum hasCode readByte readWord readLong readBy placeOf requestOf stepOn linkBytes sendAt sendOf first started sameConstants begun startedUnlessDue requested reset adoptsId adoptsTimestamp judged dueNow anyDue kindOf listIf partsOf dueAfter deltasAfter moved sentWith stepOf firstStep filled gapVerdict ipAfter rtpAfter deltasHeld advanced broke settled applied rebuilt nextSequence nextGeneration offPattern counted isDue gap movedOn soundList soundLink soundDue zeroList usedSound unusedSound soundCompressorBy soundCompressor filledSound unfilledSound soundDecompressorBy soundDecompressor emptyCompressor emptyDecompressor receiveFull receiveOld receiveCompressed receiveKind receiveBy next readPayload nextByte nextWord nextLong nextDelta16 nextDelta32 nextPayload ipChecksumOf ipChecksum fixedForm compressible rtpAt flowOf ipOf headerOf ipFront ipBack udpBytes rtpFixed headerBytes crBytes secondWith secondOf deltasOf crRest crOf recordWith recordJudged requestJudged cuBytes changesOf valuesOf cuRest cuOf fhBytes fieldsForm fhJudged fhOf headOf sameList
-answers-are = refl
-
--- two full headers, two CU, two full headers by request, one plain packet
+-- the types of what was given out: two full headers, two CU, two full headers by request, one plain packet
 abbrev kinds : List Sent → List ℕ
 kinds [] = []
 kinds (e ∷ es) = e .kind ∷ kinds es
 
-kinds-are : kinds (after start list .sent) ≡ 1 ∷ 1 ∷ 2 ∷ 2 ∷ 1 ∷ 1 ∷ 0 ∷ []
-unfolding compressing.soundOf decompressing.soundOf plus codeOf difference sum hasCode readByte readWord readLong readBy placeOf requestOf stepOn linkBytes sendAt sendOf first started sameConstants begun startedUnlessDue requested reset adoptsId adoptsTimestamp judged dueNow anyDue kindOf listIf partsOf dueAfter deltasAfter moved sentWith stepOf firstStep filled gapVerdict ipAfter rtpAfter deltasHeld advanced broke settled applied rebuilt nextSequence nextGeneration offPattern counted isDue gap movedOn soundList soundLink soundDue zeroList usedSound unusedSound soundCompressorBy soundCompressor filledSound unfilledSound soundDecompressorBy soundDecompressor emptyCompressor emptyDecompressor receiveFull receiveOld receiveCompressed receiveKind receiveBy next readPayload nextByte nextWord nextLong nextDelta16 nextDelta32 nextPayload ipChecksumOf ipChecksum fixedForm compressible rtpAt flowOf ipOf headerOf ipFront ipBack udpBytes rtpFixed headerBytes crBytes secondWith secondOf deltasOf crRest crOf recordWith recordJudged requestJudged cuBytes changesOf valuesOf cuRest cuOf fhBytes fieldsForm fhJudged fhOf headOf sameList
-kinds-are = refl
+-- what is computed of the list: its answers, those types, what is lost on context 0 and on another; and its arrivals are in order
+record Computed : Type 0 where
+  answered : answers start list ≡ shown 0 packet1 ∷ shown 0 packet3 ∷ shown 11 [] ∷ shown 0 packet5 ∷ shown 0 odd ∷ []
+  given : kinds (after start list .sent) ≡ 1 ∷ 1 ∷ 2 ∷ 2 ∷ 1 ∷ 1 ∷ 0 ∷ []
+  on : losses 0 list 0 (after start list .sent) ≡ true ∷ false ∷ true ∷ false ∷ true ∷ false ∷ []
+  off : (c : ℕ) → eqb 0 c ≡ false → losses c list 0 (after start list .sent) ≡ []
+  ordered : Ordered start 0 list
+
+computed : Computed
+unfolding compressing.soundOf decompressing.soundOf plus codeOf difference sum hasCode readByte readWord readLong readBy placeOf
+    requestOf stepOn linkBytes sendAt sendOf first started sameConstants begun startedUnlessDue requested reset adoptsId
+    adoptsTimestamp judged dueNow anyDue kindOf listIf partsOf dueAfter deltasAfter moved sentWith stepOf firstStep filled
+    gapVerdict ipAfter rtpAfter deltasHeld advanced broke settled applied rebuilt nextSequence
+    nextGeneration offPattern counted isDue gap movedOn soundList soundLink soundDue zeroList usedSound unusedSound
+    soundCompressorBy soundCompressor filledSound unfilledSound soundDecompressorBy soundDecompressor emptyCompressor
+    emptyDecompressor receiveFull receiveOld receiveCompressed receiveKind receiveBy next readPayload nextByte nextWord nextLong
+    nextDelta16 nextDelta32 nextPayload ipChecksumOf ipChecksum fixedForm compressible rtpAt flowOf ipOf headerOf ipFront ipBack
+    udpBytes rtpFixed headerBytes crBytes secondWith secondOf deltasOf crRest crOf recordWith recordJudged requestJudged cuBytes
+    changesOf valuesOf cuRest cuOf fhBytes fieldsForm fhJudged fhOf headOf sameList
+computed = record {
+  answered = refl;
+  given = refl;
+  on = refl;
+  off = λ c e. rw e;
+  ordered = (lit≤ tt, lit≤ tt, (lit≤ tt, lit≤ tt, (lit≤ tt, lit≤ tt, (lit≤ tt, lit≤ tt, (lit≤ tt, lit≤ tt, tt)))));
+}
 
 ---- The premises
 
-losses-on : losses 0 list 0 (after start list .sent) ≡ true ∷ false ∷ true ∷ false ∷ true ∷ false ∷ []
-unfolding compressing.soundOf decompressing.soundOf plus codeOf difference sum hasCode readByte readWord readLong readBy placeOf requestOf stepOn linkBytes sendAt sendOf first started sameConstants begun startedUnlessDue requested reset adoptsId adoptsTimestamp judged dueNow anyDue kindOf listIf partsOf dueAfter deltasAfter moved sentWith stepOf firstStep filled gapVerdict ipAfter rtpAfter deltasHeld advanced broke settled applied rebuilt nextSequence nextGeneration offPattern counted isDue gap movedOn soundList soundLink soundDue zeroList usedSound unusedSound soundCompressorBy soundCompressor filledSound unfilledSound soundDecompressorBy soundDecompressor emptyCompressor emptyDecompressor receiveFull receiveOld receiveCompressed receiveKind receiveBy next readPayload nextByte nextWord nextLong nextDelta16 nextDelta32 nextPayload ipChecksumOf ipChecksum fixedForm compressible rtpAt flowOf ipOf headerOf ipFront ipBack udpBytes rtpFixed headerBytes crBytes secondWith secondOf deltasOf crRest crOf recordWith recordJudged requestJudged cuBytes changesOf valuesOf cuRest cuOf fhBytes fieldsForm fhJudged fhOf headOf sameList
-losses-on = refl
-
-losses-off : (c : ℕ) → eqb 0 c ≡ false → losses c list 0 (after start list .sent) ≡ []
-unfolding compressing.soundOf decompressing.soundOf plus codeOf difference sum hasCode readByte readWord readLong readBy placeOf requestOf stepOn linkBytes sendAt sendOf first started sameConstants begun startedUnlessDue requested reset adoptsId adoptsTimestamp judged dueNow anyDue kindOf listIf partsOf dueAfter deltasAfter moved sentWith stepOf firstStep filled gapVerdict ipAfter rtpAfter deltasHeld advanced broke settled applied rebuilt nextSequence nextGeneration offPattern counted isDue gap movedOn soundList soundLink soundDue zeroList usedSound unusedSound soundCompressorBy soundCompressor filledSound unfilledSound soundDecompressorBy soundDecompressor emptyCompressor emptyDecompressor receiveFull receiveOld receiveCompressed receiveKind receiveBy next readPayload nextByte nextWord nextLong nextDelta16 nextDelta32 nextPayload ipChecksumOf ipChecksum fixedForm compressible rtpAt flowOf ipOf headerOf ipFront ipBack udpBytes rtpFixed headerBytes crBytes secondWith secondOf deltasOf crRest crOf recordWith recordJudged requestJudged cuBytes changesOf valuesOf cuRest cuOf fhBytes fieldsForm fhJudged fhOf headOf sameList
-losses-off c e = rw e
-
 bounded-by : (c : ℕ) (b : Bool) → eqb 0 c ≡ b → Bounded 1 (losses c list 0 (after start list .sent))
-bounded-by c true e = rw (← eqb-true 0 c e, losses-on) (bounded-calm 1 (true ∷ false ∷ true ∷ false ∷ true ∷ false ∷ []) refl)
-bounded-by c false e = rw (losses-off c e) (bounded-calm 1 [] refl)
+bounded-by c true e =
+    rw (← eqb-true 0 c e, computed .on) (bounded-calm 1 (true ∷ false ∷ true ∷ false ∷ true ∷ false ∷ []) refl)
+bounded-by c false e = rw (computed .off c e) (bounded-calm 1 [] refl)
 
-opened : Opened 1 2 start
+opened : Opened chosen start
 unfolding compressing.openOf decompressing.openOf settings.openOf
 opened = record {
   earlierC = start .compressor;
@@ -116,9 +137,5 @@ opened = record {
   nothing = refl;
 }
 
-ordered : Ordered start 0 list
-unfolding compressing.soundOf decompressing.soundOf plus codeOf difference sum hasCode readByte readWord readLong readBy placeOf requestOf stepOn linkBytes sendAt sendOf first started sameConstants begun startedUnlessDue requested reset adoptsId adoptsTimestamp judged dueNow anyDue kindOf listIf partsOf dueAfter deltasAfter moved sentWith stepOf firstStep filled gapVerdict ipAfter rtpAfter deltasHeld advanced broke settled applied rebuilt nextSequence nextGeneration offPattern counted isDue gap movedOn soundList soundLink soundDue zeroList usedSound unusedSound soundCompressorBy soundCompressor filledSound unfilledSound soundDecompressorBy soundDecompressor emptyCompressor emptyDecompressor receiveFull receiveOld receiveCompressed receiveKind receiveBy next readPayload nextByte nextWord nextLong nextDelta16 nextDelta32 nextPayload ipChecksumOf ipChecksum fixedForm compressible rtpAt flowOf ipOf headerOf ipFront ipBack udpBytes rtpFixed headerBytes crBytes secondWith secondOf deltasOf crRest crOf recordWith recordJudged requestJudged cuBytes changesOf valuesOf cuRest cuOf fhBytes fieldsForm fhJudged fhOf headOf sameList
-ordered = (lit≤ tt, lit≤ tt, (lit≤ tt, lit≤ tt, (lit≤ tt, lit≤ tt, (lit≤ tt, lit≤ tt, (lit≤ tt, lit≤ tt, tt)))))
-
-premises : Premises 1 2 start list
-premises = record { opened = opened; ordered = ordered; bounded = λ c. bounded-by c (eqb 0 c) refl }
+premises : Premises chosen start list
+premises = record { opened = opened; ordered = computed .ordered; bounded = λ c. bounded-by c (eqb 0 c) refl }

@@ -2,8 +2,11 @@
 mod Lists
 mod Steps
 mod Arrivals
-mod Requests
 mod Tables
+mod Given
+mod OneContext
+mod Laws
+pub mod FullHeader
 pub mod Robust
 pub mod Alike
 mod Calm

@@ -1,164 +1,135 @@
--- Iarwennol. The relation between the two tables at one context number, kept by every call. Assumes nothing.
--- Used by the theorem (Robust).
-use Prim.Native.Nat.{ℕ, suc, _+_, _%_, _^_, _≤_, _<_}
-use mathlib.Core.Path.{_≡_, refl, sym, ap, _∙_, subst}
-use mathlib.Core.Bool.{Bool, true, false, cond, not}
-use mathlib.Core.List.{List, [], _∷_, _++_}
-use mathlib.Core.Option.{Option, none, some}
+-- Iarwennol. The relation of the two tables: what it says of the compressor's, of the decompressor's, and of both at one context
+-- number. Each part is kept by the calls of its end, and holds of the tables that openings leave. Assumes nothing.
+-- Used by all that follows.
+use Prim.Native.Nat.{ℕ, zero, suc}
+use mathlib.Core.Path.{_≡_, refl, ap, _∙_}
+use mathlib.Core.Bool.{true, true≢false}
+use mathlib.Core.List.{List}
 use native.Mathlib.Omega.{arith}
-use borrow.Author.Tests.{eqb-true, eqb-false, eq-eqb, ne-eqb, lt-ltb, le-ltb}
-use lib.Dec.{eqb, ltb}
-use lib.ListN.{length, getD, set, take, drop, length-set}
-use lib.Seq.{getD-set-same, getD-set-other, take-append-seam}
+use lib.ListN.{length, getD, replicate, length-replicate}
 use Rattle.codes.specs.Bytes.{AllBytes}
-use Rattle.codes.specs.BytesLaws.{allBytes-append}
-use Rattle.codes.specs.Reading.{byteAt}
-use Rattle.codes.proofs.BytesRead.{allBytes-drop}
-use Rattle.packet.specs.Ranges.{HeaderInRange}
-use Rattle.packet.specs.declared.header.Header.{Header}
 use Rattle.settings.specs.Settings as settings
-use Rattle.settings.specs.SettingsLaws.{range-repeats, range-most}
 use Rattle.settings.specs.declared.Settings.{Settings}
-use Rattle.headers.specs.Header.{headerOf, flowOf, headerSize}
-use Rattle.headers.specs.CompressibleLaws.{compressible-true}
-use Rattle.headers.specs.HeaderLaws.{headerOf-range}
-use Rattle.links.specs.Fh.{fhBytes, fhOf}
-use Rattle.links.specs.FhLaws.{FhFits, allBytes-fhBytes, fhOf-fhBytes}
-use Rattle.links.specs.declared.fh.FullHeader as fh
-use Rattle.links.specs.Cu.{cuBytes}
-use Rattle.links.specs.CuLaws.{first-cuBytes, allBytes-cuBytes}
-use Rattle.links.specs.Cr.{crBytes}
-use Rattle.links.specs.CrLaws.{first-crBytes, allBytes-crBytes, contextOf-crBytes}
-use Rattle.context.specs.AllLaws.{all-at}
-use Rattle.context.specs.Range as context
-use Rattle.context.specs.Relation.{Related, Arrives}
-use Rattle.context.proofs.AllLaws.{all-at}
-use Rattle.context.proofs.Relation as context
-use Rattle.context.proofs.Relation.{Related, Arrives}
-use Rattle.context.specs.Sound.{soundCompressor, soundDecompressor}
+use Rattle.context.proofs.Relation.{Held}
+use Rattle.context.proofs.Relation.{Related}
+use Rattle.context.specs.Sound.{emptyCompressor, emptyDecompressor}
 use Rattle.context.specs.declared.compressor.CompressorContext.{CompressorContext}
 use Rattle.context.specs.declared.decompressor.DecompressorContext.{DecompressorContext}
-use Rattle.context.specs.declared.step.Kind.{Kind}
-use Rattle.context.specs.declared.step.Kind.the-variants.{FullHeader, CompressedUdp, CompressedRtp}
-use Rattle.context.specs.declared.step.Step.{Step}
+use Rattle.context.proofs.Others.{related-empty}
 use Rattle.compressor.specs.declared.table.Table as compressor
 use Rattle.compressor.specs.Table as compressing
-use Rattle.compressor.specs.TableLaws as sending
-use Rattle.compressor.specs.Send.{linkBy, linkBytes, sentBytes, kindNumber, stepOn}
-use Rattle.compressor.specs.SendLaws.{On, stepAt}
+use Rattle.compressor.specs.TableLaws as compressing·laws
+use Rattle.compressor.specs.Send.{sendOf}
+use Rattle.compressor.specs.SoundLaws.{sound-send, settings-send, length-send, held-send}
+use Rattle.compressor.specs.Request.{requestOf}
+use Rattle.compressor.specs.RequestLaws.{request-asks, sound-request, held-request}
 use Rattle.decompressor.specs.declared.table.Table as decompressor
 use Rattle.decompressor.specs.Table as decompressing
-use Rattle.decompressor.proofs.ReceiveSound.{named}
-use Rattle.crtp.proofs.Lists.{frameContext}
-use Rattle.crtp.proofs.Steps.{stepOn-sound, stepOn-held, stepOn-udp, stepOn-rtp, stepOn-link}
+use Rattle.decompressor.specs.TableLaws as decompressing·laws
+use Rattle.decompressor.specs.Receive.{receiveOf}
+use Rattle.decompressor.proofs.ReceiveSound.{sound-receive, settings-receive, length-receive}
+use Rattle.crtp.specs.Robust.{Bytes}
 
--- the tables at context c, when j packets on it were lost since the last accepted one. Sound, of the same settings, every number of the
--- compressor's within its type; and the two contexts related
-pub record Rel (n k c j : ℕ) (d : decompressor.Table) (t : compressor.Table) : Type 0 where
-  pub settings : t .settings ≡ record { repeats = n; contexts = k }
-  pub shared : d .settings ≡ t .settings
-  pub soundC : compressing.Sound t
-  pub soundD : decompressing.Sound d
-  pub sizeC : length (t .contexts) ≡ 64
-  pub sizeD : length (d .contexts) ≡ 64
-  pub held : (i : ℕ) → context.Held (compressing.contextAt t i)
-  pub related : Related n j (decompressing.contextAt d c) (compressing.contextAt t c)
+-- of the compressor's table, from its opening on: it is sound, of these settings, and every number is within its type
+pub record SenderFit (s : Settings) (t : compressor.Table) : Type 0 where
+  pub settings : t .settings ≡ s
+  pub sound : compressing.Sound t
+  pub size : length (t .contexts) ≡ 64
+  pub held : (i : ℕ) → Held (compressing.contextAt t i)
 
----- The compressor's table after a packet on context i
+-- of the decompressor's table, whatever its contexts hold: it is sound, of the same settings
+pub record ReceiverFit (s : Settings) (d : decompressor.Table) : Type 0 where
+  pub settings : d .settings ≡ s
+  pub sound : decompressing.Sound d
+  pub size : length (d .contexts) ≡ 64
 
-module _ (t : compressor.Table) (p : List ℕ) (small : AllBytes p) (i : ℕ) (on : On t p i) (sound : compressing.Sound t) (size : length (t .contexts) ≡ 64)
-    (held : (i : ℕ) → context.Held (compressing.contextAt t i)) where
-  abbrev n : ℕ
-  n = t .settings .repeats
+-- of both at context c, when j packets on it were lost since the last accepted one: the two contexts are related
+abbrev pub RelatedAt : (c j : ℕ) → decompressor.Table → compressor.Table → Type 0
+RelatedAt c j d t = Related (t .settings .repeats) j (decompressing.contextAt d c) (compressing.contextAt t c)
 
-  abbrev h : Header
-  h = headerOf p
+pub record Rel (s : Settings) (c j : ℕ) (d : decompressor.Table) (t : compressor.Table) : Type 0 where
+  pub sender : SenderFit s t
+  pub receiver : ReceiverFit s d
+  pub related : RelatedAt c j d t
 
-  abbrev s : CompressorContext
-  s = compressing.contextAt t i
+---- Calls
 
-  abbrev a : Step
-  a = stepAt t p i
+module _ (s : Settings) where
+  module _ (t : compressor.Table) (f : SenderFit s t) where
+    pub sender-send : (p output : Bytes) → SenderFit s (sendOf t (p .list) (output .list) .table)
+    sender-send p output = record {
+      settings = settings-send t (p .list) (output .list) ∙ f .settings;
+      sound = sound-send t (p .list) (output .list) (p .small) (f .size) (f .sound);
+      size = length-send t (p .list) (output .list) ∙ f .size;
+      held = held-send t (p .list) (output .list) (p .small) (f .held);
+    }
 
-  range : HeaderInRange h
-  range = headerOf-range small
+    pub sender-request : (q : Bytes) → SenderFit s (requestOf t (q .list) .table)
+    sender-request q = record {
+      settings = request-asks t (q .list) .settings ∙ f .settings;
+      sound = sound-request t (q .list) (f .sound);
+      size = request-asks t (q .list) .size ∙ f .size;
+      held = held-request t (q .list) (f .held);
+    }
 
-  most-repeats : n ≤ 14
-  most-repeats = range-repeats n (t .settings .contexts) (sound .settings)
+  pub receiver-receive : (d : decompressor.Table) (kind : ℕ) (bytes output : List ℕ) → AllBytes bytes → ReceiverFit s d
+      → ReceiverFit s (receiveOf d kind bytes output .table)
+  receiver-receive d kind bytes output small f = record {
+    settings = settings-receive d kind bytes (f .sound) small output ∙ f .settings;
+    sound = sound-receive d kind bytes (f .sound) small output;
+    size = length-receive d kind bytes (f .sound) small output ∙ f .size;
+  }
 
-  few-contexts : t .settings .contexts ≤ 64
-  few-contexts = range-most n (t .settings .contexts) (sound .settings)
+---- Openings
 
-  there : i < length (t .contexts)
-  there = omega (arith, on .place .among, few-contexts)
+-- what holds of x and of d holds at every place of a list of x, and past its end
+replicate-each : {A : Type 0} (P : A → Type 0) (n i : ℕ) (x d : A) → P x → P d → P (getD (replicate n x) i d)
+replicate-each P zero i x d px pd = pd
+replicate-each P (suc n) zero x d px pd = px
+replicate-each P (suc n) (suc i) x d px pd = replicate-each P n i x d px pd
 
-  context-sound : soundCompressor n s ≡ true
-  context-sound = all-at (soundCompressor n) (t .contexts) i compressing.noContext there (sound .contexts)
+noContext-held : Held compressing.noContext
+noContext-held = record {
+  id = omega arith;
+  sequence = omega arith;
+  timestamp = omega arith;
+  did = omega arith;
+  dts = omega arith;
+  link = omega arith;
+}
 
-  even-port : eqb (h .flow .dport % 2) 0 ≡ true
-  unfolding headerOf flowOf
-  even-port = eq-eqb _ _ (compressible-true p (on .compressible) .even)
+noContext-related : (n : ℕ) (v : DecompressorContext) → Related n 0 v compressing.noContext
+noContext-related n v = record {
+  few = omega arith;
+  held = noContext-held;
+  close = λ live h. absurd (true≢false (ap compressing.emptyBy live));
+}
 
-  pub on-sound : compressing.Sound (compressing.withContext t i (a .context))
-  on-sound = sending.sound-withContext t i (a .context) sound (on .place .among) (stepOn-sound n h s range even-port context-sound)
+module _ (s : Settings) (range : settings.sound s ≡ true) where
+  related-fresh : (c : ℕ) (v : DecompressorContext)
+      → Related (s .repeats) 0 v (compressing.contextAt (compressing.emptyTable s) c)
+  related-fresh c v =
+      replicate-each (λ (x : CompressorContext). Related (s .repeats) 0 v x) 64 c emptyCompressor compressing.noContext
+      (related-empty (s .repeats) v) (noContext-related (s .repeats) v)
 
-  pub on-held : (c : ℕ) → context.Held (compressing.contextAt (compressing.withContext t i (a .context)) c)
-  on-held c = by (eqb c i) refl
-    where
-      by : (b : Bool) → eqb c i ≡ b → context.Held (compressing.contextAt (compressing.withContext t i (a .context)) c)
-      by true e = rw (eqb-true c i e, getD-set-same (t .contexts) i (a .context) compressing.noContext there) (stepOn-held n h s range (held i))
-      by false e = rw (getD-set-other (t .contexts) i c (a .context) compressing.noContext (eqb-false c i e)) (held c)
+  pub sender-fresh : SenderFit s (compressing.emptyTable s)
+  sender-fresh = record {
+    settings = refl;
+    sound = compressing·laws.sound-emptyTable s range;
+    size = length-replicate 64 emptyCompressor;
+    held = λ i. related-fresh i decompressing.noContext .held;
+  }
 
-  pub on-size : length (compressing.withContext t i (a .context) .contexts) ≡ 64
-  on-size = length-set (t .contexts) i (a .context) ∙ size
+  pub receiver-fresh : ReceiverFit s (decompressing.emptyTable s)
+  receiver-fresh = record {
+    settings = refl;
+    sound = decompressing·laws.sound-emptyTable s range;
+    size = length-replicate 64 emptyDecompressor;
+  }
 
-  pub on-same : compressing.contextAt (compressing.withContext t i (a .context)) i ≡ a .context
-  on-same = getD-set-same (t .contexts) i (a .context) compressing.noContext there
-
-  pub on-other : (c : ℕ) → (c ≡ i → ⊥) → compressing.contextAt (compressing.withContext t i (a .context)) c ≡ compressing.contextAt t c
-  on-other c ne = getD-set-other (t .contexts) i c (a .context) compressing.noContext ne
-
-  ---- its bytes
-
-  pub on-full : FhFits (t .settings .contexts) i (a .link .generation) (a .link .sequence) h
-  on-full =
-      let b = stepOn-link n h s range (range .csrc .each) (held i) context-sound in
-      record { few = omega (arith, few-contexts); known = on .place .among; young = omega (arith, b .generation); small = omega (arith, b .sequence); range = range }
-
-  byte-sized : i < 256
-  byte-sized = omega (arith, on .place .among, few-contexts)
-
-  link-bytes : (k : Kind) → a .kind ≡ k → AllBytes (linkBy k i (length p) h a)
-  link-bytes FullHeader e = allBytes-fhBytes (t .settings .contexts) i (a .link .generation) (a .link .sequence) (length p) h on-full
-  link-bytes CompressedUdp e =
-      allBytes-cuBytes i (a .link .sequence) (not (a .context .blank)) (a .parts) (stepOn-udp n h s range (range .csrc .each) (held i) context-sound e) byte-sized
-  link-bytes CompressedRtp e =
-      allBytes-crBytes i (a .link .sequence) (not (a .context .blank)) (a .parts) (stepOn-rtp n h s range (range .csrc .each) (held i) context-sound e) byte-sized
-
-  pub on-bytes : AllBytes (sentBytes i p h a)
-  unfolding linkBytes
-  on-bytes = allBytes-append (link-bytes (a .kind) refl) (allBytes-drop (headerSize h) small)
-
-  -- the context number that it carries
-  full-context : byteAt (fhBytes i (a .link .generation) (a .link .sequence) (length p) h ++ drop (headerSize h) p) 3 ≡ i
-  unfolding fhOf
-  full-context =
-      ap (λ (x : fh.FullHeader). x .context)
-      (fhOf-fhBytes (t .settings .contexts) i (a .link .generation) (a .link .sequence) (length p) h on-full (drop (headerSize h) p))
-
-  named-by : (k : Kind) → a .kind ≡ k → named (kindNumber k) (linkBy k i (length p) h a ++ drop (headerSize h) p) ≡ i
-  named-by FullHeader e = full-context
-  named-by CompressedUdp e =
-      first-cuBytes i (a .link .sequence) (not (a .context .blank)) (a .parts) (stepOn-udp n h s range (range .csrc .each) (held i) context-sound e) (drop (headerSize h) p)
-  named-by CompressedRtp e =
-      first-crBytes i (a .link .sequence) (not (a .context .blank)) (a .parts) (stepOn-rtp n h s range (range .csrc .each) (held i) context-sound e) (drop (headerSize h) p)
-
-  pub on-named : named (kindNumber (a .kind)) (sentBytes i p h a) ≡ i
-  unfolding linkBytes
-  on-named = named-by (a .kind) refl
-
--- a link packet of type 1, 2 or 3 is on the context that it names
-pub frame-named : (k : Kind) (bytes : List ℕ) → frameContext (record { kind = kindNumber k; bytes = bytes }) ≡ some (named (kindNumber k) bytes)
-frame-named FullHeader bytes = refl
-frame-named CompressedUdp bytes = refl
-frame-named CompressedRtp bytes = refl
+  pub rel-fresh : (c : ℕ) → Rel s c 0 (decompressing.emptyTable s) (compressing.emptyTable s)
+  rel-fresh c = record {
+    sender = sender-fresh;
+    receiver = receiver-fresh;
+    related = related-fresh c (decompressing.contextAt (decompressing.emptyTable s) c);
+  }

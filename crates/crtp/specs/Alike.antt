@@ -1,9 +1,10 @@
--- Iarwennol. A corollary of robustness, stated: what an arrival rebuilds to depends on the sends and requests alone, not on what else
--- arrived or was lost. Its proof is `alike` (proofs/Alike.antt).
+-- Iarwennol. A corollary of robustness, stated: what an arrival rebuilds to depends on the sends and requests alone, not on what
+-- else arrived or was lost. Its proof is `alike` (proofs/Alike.antt).
 use Prim.Native.Nat.{ℕ}
 use mathlib.Core.Path.{_≡_}
 use mathlib.Core.List.{List, [], _∷_, _++_}
 use lib.ListN.{take}
+use Rattle.settings.specs.declared.Settings.{Settings}
 use Rattle.decompressor.specs.Answer as receiving
 use Rattle.crtp.specs.Robust.{Bytes, Call, send, request, arrival, other, World, after, answer, Premises}
 
@@ -35,6 +36,6 @@ pub record Same (r s : receiving.Result) : Type 0 where
 -- the same packet
 abbrev pub Alike : Type 0
 Alike =
-    (n k : ℕ) (w v : World) (xs ys : List Call) → Premises n k w xs → Premises n k v ys → asked xs ≡ asked ys
+    (s : Settings) (w v : World) (xs ys : List Call) → Premises s w xs → Premises s v ys → asked xs ≡ asked ys
     → (i : ℕ) (a : Arrival xs i) (b : Arrival ys i) → answerOf w xs i a .number ≡ 0 → answerOf v ys i b .number ≡ 0
     → Same (answerOf w xs i a) (answerOf v ys i b)

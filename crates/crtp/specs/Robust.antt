@@ -8,6 +8,7 @@ use mathlib.Core.Option.{Option, none, some}
 use lib.Dec.{eqb, ltb}
 use lib.ListN.{length, getD, take, replicate}
 use Rattle.codes.specs.Bytes.{AllBytes}
+use Rattle.settings.specs.declared.Settings.{Settings}
 use Rattle.compressor.specs.declared.table.Table as compressor
 use Rattle.compressor.specs.Answer as sending
 use Rattle.compressor.specs.Table as compressing
@@ -25,8 +26,8 @@ pub record Bytes : Type 0 where
 
 ---- The list of calls (rule 10.1)
 
--- a send of any bytes; a request of any bytes; the arrival of what the i-th accepted send gave out (the first is the 0th); a call that
--- leaves both tables, as a report does. Sends and arrivals have an output of any length
+-- a send of any bytes; a request of any bytes; the arrival of what the i-th accepted send gave out (the first is the 0th); a call
+-- that leaves both tables, as a report does. Sends and arrivals have an output of any length
 pub data Call : Type 0 where
   send : (packet output : Bytes) → Call
   request : (bytes : Bytes) → Call
@@ -61,7 +62,8 @@ abbrev pub step : World → Call → World
 step w (send p output) =
     let r = sendOf (w .compressor) (p .list) (output .list) in
     record { compressor = r .table; decompressor = w .decompressor; sent = w .sent ++ givenOut (p .list) r }
-step w (request q) = record { compressor = requestOf (w .compressor) (q .list) .table; decompressor = w .decompressor; sent = w .sent }
+step w (request q) =
+    record { compressor = requestOf (w .compressor) (q .list) .table; decompressor = w .decompressor; sent = w .sent }
 step w (arrival i output) = record { compressor = w .compressor; decompressor = answer w i output .table; sent = w .sent }
 step w other = w
 
@@ -71,7 +73,8 @@ after w (x ∷ xs) = after (step w x) xs
 
 ---- Arrivals (rule 10.2)
 
--- each is of an accepted send earlier in the list; they come in the order of their sends, and none twice. m: the first that may arrive
+-- each is of an accepted send earlier in the list; they come in the order of their sends, and none twice. m: the first that may
+-- arrive
 abbrev pub Ordered : World → (m : ℕ) → List Call → Type 0
 Ordered w m [] = Unit {0}
 Ordered w m (send p output ∷ xs) = Ordered (step w (send p output)) m xs
@@ -103,7 +106,8 @@ lost (other ∷ xs) i size = lost xs i size
 -- of the packets on one context number, in the order sent, which are lost; i: the first one's number
 abbrev pub losses : (context : ℕ) → List Call → (i : ℕ) → List Sent → List Bool
 losses c xs i [] = []
-losses c xs i (e ∷ es) = cond (isOn (contextOf e) c) (lost xs i (length (e .packet)) ∷ losses c xs (suc i) es) (losses c xs (suc i) es)
+losses c xs i (e ∷ es) =
+    cond (isOn (contextOf e) c) (lost xs i (length (e .packet)) ∷ losses c xs (suc i) es) (losses c xs (suc i) es)
 
 -- n + 1 next to each other are never all lost
 abbrev pub Bounded : ℕ → List Bool → Type 0
@@ -123,23 +127,24 @@ Exact all w [] = Unit {0}
 Exact all w (send p output ∷ xs) = Exact all (step w (send p output)) xs
 Exact all w (request q ∷ xs) = Exact all (step w (request q)) xs
 Exact all w (arrival i output ∷ xs) =
-    (lost all i (length (sentAt w i .packet)) ≡ false → Rebuilt (sentAt w i .packet) (answer w i output)) × Exact all (step w (arrival i output)) xs
+    (lost all i (length (sentAt w i .packet)) ≡ false → Rebuilt (sentAt w i .packet) (answer w i output))
+    × Exact all (step w (arrival i output)) xs
 Exact all w (other ∷ xs) = Exact all w xs
 
 -- both tables as accepted openings with the same settings left them, whatever was there before
-pub record Opened (n k : ℕ) (w : World) : Type 0 where
+pub record Opened (s : Settings) (w : World) : Type 0 where
   pub earlierC : compressor.Table
   pub earlierD : decompressor.Table
-  pub acceptedC : compressing.openOf earlierC n k .number ≡ 0
-  pub acceptedD : decompressing.openOf earlierD n k .number ≡ 0
-  pub compressor : w .compressor ≡ compressing.openOf earlierC n k .table
-  pub decompressor : w .decompressor ≡ decompressing.openOf earlierD n k .table
+  pub acceptedC : compressing.openOf earlierC (s .repeats) (s .contexts) .number ≡ 0
+  pub acceptedD : decompressing.openOf earlierD (s .repeats) (s .contexts) .number ≡ 0
+  pub compressor : w .compressor ≡ compressing.openOf earlierC (s .repeats) (s .contexts) .table
+  pub decompressor : w .decompressor ≡ decompressing.openOf earlierD (s .repeats) (s .contexts) .table
   pub nothing : w .sent ≡ []
 
-pub record Premises (n k : ℕ) (w : World) (xs : List Call) : Type 0 where
-  pub opened : Opened n k w
+pub record Premises (s : Settings) (w : World) (xs : List Call) : Type 0 where
+  pub opened : Opened s w
   pub ordered : Ordered w 0 xs
-  pub bounded : (c : ℕ) → Bounded n (losses c xs 0 (after w xs .sent))
+  pub bounded : (c : ℕ) → Bounded (s .repeats) (losses c xs 0 (after w xs .sent))
 
 abbrev pub Robust : Type 0
-Robust = (n k : ℕ) (w : World) (xs : List Call) → Premises n k w xs → Exact xs w xs
+Robust = (s : Settings) (w : World) (xs : List Call) → Premises s w xs → Exact xs w xs

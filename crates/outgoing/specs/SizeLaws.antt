@@ -1,7 +1,7 @@
 -- Iarwennol. Laws of sizes: each is the length of what goes out, and never exceeds that of the packet's header. Assume nothing.
--- Used by the proofs and the laws of send.
+-- Used by the proofs and the laws of send, and by the theorem on lists of calls (crtp).
 use Prim.Native.Nat.{ℕ, _+_, _*_, _≤_}
-use mathlib.Core.Path.{_≡_, refl}
+use mathlib.Core.Path.{_≡_}
 use mathlib.Core.Bool.{Bool, true, false, cond, not}
 use native.Mathlib.Omega.{arith}
 use lib.ListN.{length}
@@ -77,7 +77,6 @@ module _ (h : Header) (a : Step) (w : Writable h a) where
   size-by CompressedUdp = (omega arith, omega (arith, cuSize-most (not (a .context .blank)) (a .parts), w .list))
   size-by CompressedRtp = (omega arith, omega (arith, crSize-most (not (a .context .blank)) (a .parts), w .list))
 
-  -- a link packet is no longer than its packet
-  pub linkSize-most : (1 ≤ linkSize h a) × (linkSize h a ≤ headerSize h)
-  unfolding linkSize
-  linkSize-most = size-by (a .kind)
+  -- what stands before the rest of the packet is no longer than the packet's header, so a link packet is no longer than its packet
+  pub linkBy-most : (k : Kind) (i total : ℕ) → (1 ≤ length (linkBy k i total h a)) × (length (linkBy k i total h a) ≤ headerSize h)
+  linkBy-most k i total = rw (length-by i total h a w k) (size-by k)

@@ -1,26 +1,35 @@
--- Iarwennol. Laws of a packet's step on a context, the first or a later one. Assume nothing.
--- Used by the proofs and the laws of send.
-use Prim.Native.Nat.{ℕ, _%_, _≤_}
+-- Iarwennol. Laws of a packet's step on a context, the first or a later one: it can be written, the context stays sound and within
+-- its types, and the relation of the two ends goes on. Assume nothing.
+-- Used by the proofs and the laws of send, and by the theorem on lists of calls (crtp).
+use Prim.Native.Nat.{ℕ, suc, _%_, _≤_}
 use mathlib.Core.Path.{_≡_, refl, ap}
 use mathlib.Core.Bool.{Bool, true, false}
 use native.Mathlib.Omega.{arith}
 use lib.Dec.{eqb}
 use lib.ListN.{length}
 use Rattle.packet.specs.Csrc.{noList}
-use Rattle.packet.specs.Ranges.{HeaderInRange}
 use Rattle.packet.specs.declared.csrc.Csrc.{Csrc}
 use Rattle.packet.specs.declared.header.Header.{Header}
-use Rattle.context.specs.Compressor.{firstStep, stepOf, partsOf, listIf}
-use Rattle.context.specs.Sound.{soundLink, soundCompressor}
+use Rattle.packet.specs.Ranges.{HeaderInRange}
+use Rattle.context.specs.Compressor.{firstStep, stepOf, partsOf, listIf, begun, reset}
+use Rattle.context.proofs.Relation.{Held}
+use Rattle.context.proofs.Relation.{Related, Arrives}
+use Rattle.context.specs.Sound.{soundLink, soundCompressor, emptyDecompressor}
 use Rattle.context.specs.declared.compressor.Usage.{Usage}
 use Rattle.context.specs.declared.compressor.Usage.the-variants.{Empty, Live}
 use Rattle.context.specs.declared.compressor.CompressorContext.{CompressorContext}
+use Rattle.context.specs.declared.decompressor.DecompressorContext.{DecompressorContext}
 use Rattle.context.specs.declared.kept.Link.{Link}
+use Rattle.context.specs.declared.step.Kind.the-variants.{FullHeader}
 use Rattle.context.specs.declared.step.Step.{Step}
 use Rattle.context.proofs.Tests.{cond-both}
 use Rattle.context.proofs.SoundFacts.{LinkBounds, soundLink-bounds}
 use Rattle.context.proofs.CompressorSound.{sound-first, sound-step}
 use Rattle.context.proofs.PartsLaws.{link-step, list-step}
+use Rattle.context.proofs.Ready.{ready-held}
+use Rattle.context.proofs.Lost.{related-lost, moved-held, step-context}
+use Rattle.context.proofs.Arrives.{related-arrives, related-full}
+use Rattle.context.proofs.Others.{related-first-lost, related-first-arrives}
 use Rattle.outgoing.specs.Outgoing.{stepBy, stepOn}
 use Rattle.outgoing.specs.Size.{Writable}
 
@@ -54,20 +63,31 @@ module _ (n : ℕ) (h : Header) (c : CompressorContext) where
 list-fits : (any : Bool) (l : Csrc) → l .count ≤ length (l .words)
     → (listIf any l .count ≤ l .count) × (listIf any l .count ≤ length (listIf any l .words))
 unfolding listIf
-list-fits any l f = cond-both (λ (x : Csrc). (x .count ≤ l .count) × (x .count ≤ length (x .words))) any l noList (omega arith, f) (omega arith, omega arith)
+list-fits any l f =
+    cond-both (λ (x : Csrc). (x .count ≤ l .count) × (x .count ≤ length (x .words))) any l noList
+    (omega arith, f) (omega arith, omega arith)
 
 module _ (n : ℕ) (h : Header) (r : HeaderInRange h) where
-  list-of : (any : Bool) → (listIf any (h .csrc) .count ≤ h .csrc .count) × (listIf any (h .csrc) .count ≤ length (listIf any (h .csrc) .words))
+  list-of : (any : Bool)
+      → (listIf any (h .csrc) .count ≤ h .csrc .count) × (listIf any (h .csrc) .count ≤ length (listIf any (h .csrc) .words))
   list-of any = list-fits any (h .csrc) (omega (arith, r .csrc .count, r .csrc .size))
 
   writable-first : Writable h (firstStep n h firstLink)
   unfolding firstStep partsOf
-  writable-first = let l = list-of false in record { header = r; sequence = omega arith; generation = omega arith; list = l .0; words = l .1 }
+  writable-first =
+      let l = list-of false in
+      record { header = r; sequence = omega arith; generation = omega arith; list = l .0; words = l .1 }
 
   writable-from : (a : Step) → LinkBounds (a .link) → a .parts .csrc ≡ listIf (a .parts .listed) (h .csrc) → Writable h a
   writable-from a b e =
       let l = list-of (a .parts .listed) in
-      record { header = r; sequence = omega (arith, b .sequence); generation = omega (arith, b .generation); list = rw e (l .0); words = rw e (l .1) }
+      record {
+        header = r;
+        sequence = omega (arith, b .sequence);
+        generation = omega (arith, b .generation);
+        list = rw e (l .0);
+        words = rw e (l .1);
+      }
 
   writable-live : (c : CompressorContext) → soundCompressor n c ≡ true → c .status ≡ Live → Writable h (stepOf n h c)
   writable-live c s u = writable-from (stepOf n h c) (soundLink-bounds (stepOf n h c .link) (link-step n h c u s)) (list-step n h c)
@@ -76,13 +96,51 @@ module _ (n : ℕ) (h : Header) (r : HeaderInRange h) where
   pub writable-stepOn : (c : CompressorContext) → soundCompressor n c ≡ true → Writable h (stepOn n h c)
   writable-stepOn c s = stepOn-either n h c (λ a. Writable h a) writable-first (writable-live c s)
 
----- soundCompressor
+  ---- The context that it leaves
 
-module _ (n : ℕ) (h : Header) (f : HeaderInRange h) (even : eqb (h .flow .dport % 2) 0 ≡ true) where
-  sound-firstStep : soundCompressor n (firstStep n h firstLink .context) ≡ true
-  unfolding firstStep soundLink
-  sound-firstStep = sound-first n h firstLink f even refl
+  module _ (even : eqb (h .flow .dport % 2) 0 ≡ true) where
+    sound-firstStep : soundCompressor n (firstStep n h firstLink .context) ≡ true
+    unfolding firstStep soundLink
+    sound-firstStep = sound-first n h firstLink r even refl
 
-  -- a sound context stays sound
-  pub sound-stepOn : (c : CompressorContext) → soundCompressor n c ≡ true → soundCompressor n (stepOn n h c .context) ≡ true
-  sound-stepOn c s = stepOn-either n h c (λ a. soundCompressor n (a .context) ≡ true) sound-firstStep (λ live. sound-step n h c f live s)
+    -- a sound context stays sound
+    pub sound-stepOn : (c : CompressorContext) → soundCompressor n c ≡ true → soundCompressor n (stepOn n h c .context) ≡ true
+    sound-stepOn c s =
+        stepOn-either n h c (λ a. soundCompressor n (a .context) ≡ true) sound-firstStep (λ live. sound-step n h c r live s)
+
+  module _ (c : CompressorContext) where
+    held-stepOf : Held c → Held (stepOf n h c .context)
+    held-stepOf k = rw (step-context n h c) (moved-held n h (reset (begun n h c)) r (ready-held n h c k))
+
+    -- its numbers stay within their types
+    pub held-stepOn : Held c → Held (stepOn n h c .context)
+    held-stepOn k =
+        stepOn-either n h c (λ a. Held (a .context))
+        (related-first-arrives n emptyDecompressor h firstLink r (omega arith) .keeps .held) (λ live. held-stepOf k)
+
+    ---- The relation; v: the decompressor's context
+
+    module _ (v : DecompressorContext) where
+      lost-first : (j : ℕ) → suc j ≤ n → Related n (suc j) v (firstStep n h firstLink .context)
+      unfolding firstStep
+      lost-first j few = related-first-lost n j v h firstLink r few
+
+      -- the packet is lost
+      pub lost-stepOn : (j : ℕ) → Related n j v c → suc j ≤ n → Related n (suc j) v (stepOn n h c .context)
+      lost-stepOn j k few =
+          stepOn-either n h c (λ a. Related n (suc j) v (a .context)) (lost-first j few) (related-lost n j v h c r few k)
+
+      arrives-first : Arrives n v h (firstStep n h firstLink)
+      arrives-first = related-first-arrives n v h firstLink r (omega arith)
+
+      module _ (flow : c .status ≡ Live → h .flow ≡ c .flow) where
+        -- the packet arrives
+        pub arrives-stepOn : (j : ℕ) → Related n j v c → n ≤ 14 → Arrives n v h (stepOn n h c)
+        arrives-stepOn j k most =
+            stepOn-either n h c (λ a. Arrives n v h a) arrives-first (λ live. related-arrives n j v h c r (flow live) k live most)
+
+        -- a full header arrives whatever the decompressor has there
+        pub full-stepOn : Held c → stepOn n h c .kind ≡ FullHeader → Arrives n v h (stepOn n h c)
+        full-stepOn k =
+            stepOn-either n h c (λ a. a .kind ≡ FullHeader → Arrives n v h a) (λ e. arrives-first)
+            (λ live e. related-full n v h c r k (flow live) e)
