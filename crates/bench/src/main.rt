@@ -7,16 +7,43 @@ mod clock;
 mod round;
 mod show;
 
-// Whether the first argument is the word `time`.
-fn is_timed() -> bool {
-    let mut word = [0u8; 8];
-    let n = os::arg(1, &mut word);
-    (n == 4) & (word[0] == b't') & (word[1] == b'i') & (word[2] == b'm') & (word[3] == b'e')
+// What the arguments ask for.
+enum Asked {
+    Plain,
+    Timed,
+    Unknown,
 }
 
-fn main() {
-    let timed = is_timed();
+fn arguments() -> Asked {
+    let count = os::arg_count();
+    if count <= 1 {
+        return Asked::Plain;
+    }
+    let mut word = [0u8; 8];
+    let n = os::arg(1, &mut word);
+    let time = (n == 4)
+        & (word[0] == b't')
+        & (word[1] == b'i')
+        & (word[2] == b'm')
+        & (word[3] == b'e');
+    if time & (count == 2) {
+        return Asked::Timed;
+    }
+    Asked::Unknown
+}
+
+fn run_all(timed: bool) {
     round::run(64, 64, timed);
     round::run(1, 64, timed);
     round::run(1, 1, timed);
+}
+
+fn main() {
+    match arguments() {
+        Asked::Plain => run_all(false),
+        Asked::Timed => run_all(true),
+        Asked::Unknown => {
+            io::write_all(1, b"usage: bench [time]\n");
+        }
+    }
 }

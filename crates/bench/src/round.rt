@@ -18,20 +18,20 @@ pub struct Times {
 
 // Both ends, and what was counted and measured so far.
 struct State {
-    compressor: compressor::table::Table,
-    decompressor: decompressor::table::Table,
+    compressor: crtp::CompressorTable,
+    decompressor: crtp::DecompressorTable,
     tally: Tally,
     times: Times,
 }
 
 // The sends of a batch, timed.
 struct Sent {
-    table: compressor::table::Table,
+    table: crtp::CompressorTable,
     time: u64,
 }
 
 fn send_timed(
-    t: compressor::table::Table,
+    t: crtp::CompressorTable,
     packets: &[u8],
     links: &mut [u8],
     kinds: &mut [u8],
@@ -47,12 +47,12 @@ fn send_timed(
 }
 
 struct Received {
-    table: decompressor::table::Table,
+    table: crtp::DecompressorTable,
     time: u64,
 }
 
 fn receive_timed(
-    t: decompressor::table::Table,
+    t: crtp::DecompressorTable,
     links: &[u8],
     kinds: &[u8],
     lengths: &[usize],

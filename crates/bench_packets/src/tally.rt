@@ -32,19 +32,6 @@ fn sum_of(s: &[u8]) -> u32 {
     sum
 }
 
-fn same(a: &[u8], b: &[u8]) -> bool {
-    if a.len() != b.len() {
-        return false;
-    }
-    let mut ok = true;
-    let mut i = 0;
-    while i < a.len() {
-        ok = ok & (a[i] == b[i]);
-        i += 1;
-    }
-    ok
-}
-
 fn one_if(b: bool) -> u32 {
     if b { 1 } else { 0 }
 }
@@ -63,7 +50,7 @@ fn with_link(t: Tally, kind: u8, link: &[u8]) -> Tally {
 
 fn with_rebuilt(t: Tally, packet: &[u8], rebuilt: &[u8]) -> Tally {
     let mut u = t;
-    u.exact = std::num::wrapping_add_u32(t.exact, one_if(same(packet, rebuilt)));
+    u.exact = std::num::wrapping_add_u32(t.exact, one_if(check::same(packet, rebuilt)));
     u
 }
 

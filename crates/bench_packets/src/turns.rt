@@ -39,20 +39,20 @@ pub struct Given {
     pub length: usize,
 }
 
-pub fn given_by(o: compressor::answer::Outcome) -> Given {
+pub fn given_by(o: crtp::CompressorOutcome) -> Given {
     match o {
-        compressor::answer::Outcome::Accepted(k, n) => Given { kind: k, length: n },
-        compressor::answer::Outcome::Refused(_) => Given { kind: 0, length: 0 },
+        crtp::CompressorOutcome::Accepted(k, n) => Given { kind: k, length: n },
+        crtp::CompressorOutcome::Refused(_) => Given { kind: 0, length: 0 },
     }
 }
 
 pub fn send_all(
-    t: compressor::table::Table,
+    t: crtp::CompressorTable,
     packets: &[u8],
     links: &mut [u8],
     kinds: &mut [u8],
     lengths: &mut [usize],
-) -> compressor::table::Table {
+) -> crtp::CompressorTable {
     if packets.len() != 12800 {
         return t;
     }
@@ -93,12 +93,12 @@ pub fn within(n: usize) -> usize
 }
 
 pub fn receive_all(
-    t: decompressor::table::Table,
+    t: crtp::DecompressorTable,
     links: &[u8],
     kinds: &[u8],
     lengths: &[usize],
     rebuilt: &mut [u8],
-) -> decompressor::table::Table {
+) -> crtp::DecompressorTable {
     if links.len() != 12800 {
         return t;
     }

@@ -8,8 +8,8 @@ use crate::stream::put_packet;
 
 // Both ends, and what was counted so far.
 struct Run {
-    compressor: compressor::table::Table,
-    decompressor: decompressor::table::Table,
+    compressor: crtp::CompressorTable,
+    decompressor: crtp::DecompressorTable,
     count: Count,
 }
 
@@ -21,36 +21,23 @@ fn front<'a>(s: &'a [u8], n: usize) -> &'a [u8] {
     &s[..n]
 }
 
-fn same(a: &[u8], b: &[u8]) -> bool {
-    if a.len() != b.len() {
-        return false;
-    }
-    let mut ok = true;
-    let mut i = 0;
-    while i < a.len() {
-        ok = ok & (a[i] == b[i]);
-        i += 1;
-    }
-    ok
-}
-
 // What an arrival left, and whether it was rebuilt to the packet that went in.
 struct Arrived {
-    table: decompressor::table::Table,
+    table: crtp::DecompressorTable,
     exact: bool,
 }
 
-fn arrive(t: decompressor::table::Table, kind: u8, link: &[u8], p: &[u8]) -> Arrived {
+fn arrive(t: crtp::DecompressorTable, kind: u8, link: &[u8], p: &[u8]) -> Arrived {
     let mut out = [0u8; 84];
     let answer = crtp::receive(t, kind as u32, link, &mut out);
     let table = answer.table;
     let outcome = answer.outcome;
     match outcome {
-        decompressor::answer::Outcome::Accepted(n) => Arrived {
+        crtp::DecompressorOutcome::Accepted(n) => Arrived {
             table: table,
-            exact: same(front(&out, n), p),
+            exact: check::same(front(&out, n), p),
         },
-        decompressor::answer::Outcome::Refused(_) => Arrived {
+        crtp::DecompressorOutcome::Refused(_) => Arrived {
             table: table,
             exact: false,
         },
@@ -115,10 +102,10 @@ fn send(r: Run, i: u32, p: &[u8; 84], n: usize) -> Run {
         count: count,
     };
     match outcome {
-        compressor::answer::Outcome::Accepted(kind, length) => {
+        crtp::CompressorOutcome::Accepted(kind, length) => {
             cross(next, i, kind, front(&link, length), front(p, n))
         }
-        compressor::answer::Outcome::Refused(_) => next,
+        crtp::CompressorOutcome::Refused(_) => next,
     }
 }
 
@@ -128,7 +115,7 @@ fn one(r: Run, i: u32) -> Run {
     send(r, i, &p, n)
 }
 
-pub fn all(c: compressor::table::Table, d: decompressor::table::Table) -> Count {
+pub fn all(c: crtp::CompressorTable, d: crtp::DecompressorTable) -> Count {
     let mut run = Run {
         compressor: c,
         decompressor: d,

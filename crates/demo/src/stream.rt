@@ -1,11 +1,11 @@
 ghost use mathlib.Core.Path.{_≡_};
 ghost use Prim.Native.Nat.{_≤_, _<_};
 ghost use Rattle.packet.specs.Ranges.{Narrow};
-use packet::csrc::Csrc;
-use packet::header::Flow;
+use crtp::Csrc;
+use crtp::Flow;
+use crtp::Ip;
+use crtp::Rtp;
 use packet::header::Header;
-use packet::header::Ip;
-use packet::header::Rtp;
 
 pub const PACKETS: u32 = 60;
 
