@@ -39,7 +39,7 @@ use Rattle.decompressor.proofs.ReceiveSound.{named}
 use Rattle.calls.specs.Calls as calls
 use Rattle.crtp.specs.Robust.{Bytes}
 use Rattle.crtp.proofs.Lists.{Frame, frameOf, frameContext}
-use Rattle.crtp.proofs.Steps.{Carried, carried-stepOn, full-fits}
+use Rattle.outgoing.specs.StepLaws.{Carried, carried-stepOn, full-fits}
 use Rattle.crtp.proofs.Tables.{SenderFit}
 
 ---- The ways of a send, by what it gave out

@@ -1,6 +1,5 @@
 -- Iarwennol. The theorem, and what it rests on.
 mod Lists
-mod Steps
 mod Arrivals
 mod Tables
 mod Given

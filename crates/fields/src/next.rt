@@ -25,11 +25,11 @@ pub fn next_byte(s: &[u8], p: Place, wanted: bool) -> Got8
     ensures { λ r. ⌜ r ≡ nextByte (now (s .entry)) p wanted ⌝ }
 {
     let found = p.verdict;
-    let c = p.cursor;
+    let cursor = p.cursor;
     if is_accepted(found) & wanted {
-        match c.byte(s) {
-            ReadByte::Byte(v, n) => { there8(n, v) }
-            ReadByte::Cut => { none8(stop(c, Refusal::Cut)) }
+        match cursor.byte(s) {
+            ReadByte::Byte(value, past) => { there8(past, value) }
+            ReadByte::Cut => { none8(stop(cursor, Refusal::Cut)) }
         }
     } else {
         none8(p)
@@ -40,11 +40,11 @@ pub fn next_word(s: &[u8], p: Place, wanted: bool) -> Got16
     ensures { λ r. ⌜ r ≡ nextWord (now (s .entry)) p wanted ⌝ }
 {
     let found = p.verdict;
-    let c = p.cursor;
+    let cursor = p.cursor;
     if is_accepted(found) & wanted {
-        match c.word(s) {
-            ReadWord::Word(v, n) => { there16(n, v) }
-            ReadWord::Cut => { none16(stop(c, Refusal::Cut)) }
+        match cursor.word(s) {
+            ReadWord::Word(value, past) => { there16(past, value) }
+            ReadWord::Cut => { none16(stop(cursor, Refusal::Cut)) }
         }
     } else {
         none16(p)
@@ -55,11 +55,11 @@ pub fn next_long(s: &[u8], p: Place, wanted: bool) -> Got32
     ensures { λ r. ⌜ r ≡ nextLong (now (s .entry)) p wanted ⌝ }
 {
     let found = p.verdict;
-    let c = p.cursor;
+    let cursor = p.cursor;
     if is_accepted(found) & wanted {
-        match c.long(s) {
-            ReadLong::Long(v, n) => { there32(n, v) }
-            ReadLong::Cut => { none32(stop(c, Refusal::Cut)) }
+        match cursor.long(s) {
+            ReadLong::Long(value, past) => { there32(past, value) }
+            ReadLong::Cut => { none32(stop(cursor, Refusal::Cut)) }
         }
     } else {
         none32(p)
@@ -70,12 +70,12 @@ pub fn next_delta16(s: &[u8], p: Place, wanted: bool) -> Got16
     ensures { λ r. ⌜ r ≡ nextDelta16 (now (s .entry)) p wanted ⌝ }
 {
     let found = p.verdict;
-    let c = p.cursor;
+    let cursor = p.cursor;
     if is_accepted(found) & wanted {
-        match c.delta16(s) {
-            ReadDelta16::Delta(v, n) => { there16(n, v) }
-            ReadDelta16::Cut => { none16(stop(c, Refusal::Cut)) }
-            ReadDelta16::Unused => { none16(stop(c, Refusal::UnusedCode)) }
+        match cursor.delta16(s) {
+            ReadDelta16::Delta(value, past) => { there16(past, value) }
+            ReadDelta16::Cut => { none16(stop(cursor, Refusal::Cut)) }
+            ReadDelta16::Unused => { none16(stop(cursor, Refusal::UnusedCode)) }
         }
     } else {
         none16(p)
@@ -86,12 +86,12 @@ pub fn next_delta32(s: &[u8], p: Place, wanted: bool) -> Got32
     ensures { λ r. ⌜ r ≡ nextDelta32 (now (s .entry)) p wanted ⌝ }
 {
     let found = p.verdict;
-    let c = p.cursor;
+    let cursor = p.cursor;
     if is_accepted(found) & wanted {
-        match c.delta32(s) {
-            ReadDelta32::Delta(v, n) => { there32(n, v) }
-            ReadDelta32::Cut => { none32(stop(c, Refusal::Cut)) }
-            ReadDelta32::Unused => { none32(stop(c, Refusal::UnusedCode)) }
+        match cursor.delta32(s) {
+            ReadDelta32::Delta(value, past) => { there32(past, value) }
+            ReadDelta32::Cut => { none32(stop(cursor, Refusal::Cut)) }
+            ReadDelta32::Unused => { none32(stop(cursor, Refusal::UnusedCode)) }
         }
     } else {
         none32(p)
@@ -103,16 +103,16 @@ pub fn next_payload(s: &[u8], p: Place, wanted: bool) -> Got8
     ensures { λ r. ⌜ r ≡ nextPayload (now (s .entry)) p wanted ⌝ }
 {
     let found = p.verdict;
-    let c = p.cursor;
+    let cursor = p.cursor;
     if is_accepted(found) & wanted {
-        match c.byte(s) {
-            ReadByte::Byte(v, n) => {
-                if v >> 7 == 0 {
-                    return there8(n, v);
+        match cursor.byte(s) {
+            ReadByte::Byte(value, past) => {
+                if value >> 7 == 0 {
+                    return there8(past, value);
                 }
-                none8(stop(c, Refusal::Forbidden))
+                none8(stop(cursor, Refusal::Forbidden))
             }
-            ReadByte::Cut => { none8(stop(c, Refusal::Cut)) }
+            ReadByte::Cut => { none8(stop(cursor, Refusal::Cut)) }
         }
     } else {
         none8(p)
@@ -124,20 +124,20 @@ pub fn next_version(s: &[u8], p: Place) -> Got8
     ensures { λ r. ⌜ r ≡ nextVersion (now (s .entry)) p ⌝ }
 {
     let found = p.verdict;
-    let c = p.cursor;
+    let cursor = p.cursor;
     if !is_accepted(found) {
         return none8(p);
     }
-    if !c.has(s, 12) {
-        return none8(stop(c, Refusal::Cut));
+    if !cursor.has(s, 12) {
+        return none8(stop(cursor, Refusal::Cut));
     }
-    match c.byte(s) {
-        ReadByte::Byte(v, n) => {
-            if v >> 6 == 2 {
-                return there8(n, v);
+    match cursor.byte(s) {
+        ReadByte::Byte(value, past) => {
+            if value >> 6 == 2 {
+                return there8(past, value);
             }
-            none8(stop(c, Refusal::Forbidden))
+            none8(stop(cursor, Refusal::Forbidden))
         }
-        ReadByte::Cut => { none8(stop(c, Refusal::Cut)) }
+        ReadByte::Cut => { none8(stop(cursor, Refusal::Cut)) }
     }
 }

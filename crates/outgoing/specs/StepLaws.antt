@@ -1,31 +1,33 @@
 -- Iarwennol. Laws of a packet's step on a context, the first or a later one: it can be written, the context stays sound and within
 -- its types, and the relation of the two ends goes on. Assume nothing.
 -- Used by the proofs and the laws of send, and by the theorem on lists of calls (crtp).
-use Prim.Native.Nat.{ℕ, suc, _%_, _≤_}
-use mathlib.Core.Path.{_≡_, refl, ap}
-use mathlib.Core.Bool.{Bool, true, false}
+use Prim.Native.Nat.{ℕ, suc, _%_, _≤_, _<_}
+use mathlib.Core.Path.{_≡_, refl, sym, ap, _∙_}
+use mathlib.Core.Bool.{Bool, true, false, _&&_, and-eq-true-iff, false≢true}
 use native.Mathlib.Omega.{arith}
 use lib.Dec.{eqb}
 use lib.ListN.{length}
 use Rattle.packet.specs.Csrc.{noList}
+use Rattle.packet.specs.Ranges.{HeaderInRange}
 use Rattle.packet.specs.declared.csrc.Csrc.{Csrc}
 use Rattle.packet.specs.declared.header.Header.{Header}
-use Rattle.packet.specs.Ranges.{HeaderInRange}
-use Rattle.context.specs.Compressor.{firstStep, stepOf, partsOf, listIf, begun, reset}
-use Rattle.context.proofs.Relation.{Held}
-use Rattle.context.proofs.Relation.{Related, Arrives}
+use Rattle.links.specs.FitsLaws.{CuFits, CrFits}
+use Rattle.links.specs.FhLaws.{FhFits}
+use Rattle.context.specs.Compressor.{firstStep, stepOf, partsOf, listIf, begun, reset, checksumSent}
+use Rattle.context.proofs.Relation.{Held, Related, Arrives, isFull}
 use Rattle.context.specs.Sound.{soundLink, soundCompressor, emptyDecompressor}
 use Rattle.context.specs.declared.compressor.Usage.{Usage}
 use Rattle.context.specs.declared.compressor.Usage.the-variants.{Empty, Live}
 use Rattle.context.specs.declared.compressor.CompressorContext.{CompressorContext}
 use Rattle.context.specs.declared.decompressor.DecompressorContext.{DecompressorContext}
 use Rattle.context.specs.declared.kept.Link.{Link}
-use Rattle.context.specs.declared.step.Kind.the-variants.{FullHeader}
+use Rattle.context.specs.declared.step.Kind.{Kind}
+use Rattle.context.specs.declared.step.Kind.the-variants.{FullHeader, CompressedUdp, CompressedRtp}
 use Rattle.context.specs.declared.step.Step.{Step}
 use Rattle.context.proofs.Tests.{cond-both}
 use Rattle.context.proofs.SoundFacts.{LinkBounds, soundLink-bounds}
 use Rattle.context.proofs.CompressorSound.{sound-first, sound-step}
-use Rattle.context.proofs.PartsLaws.{link-step, list-step}
+use Rattle.context.proofs.PartsLaws.{parts-step, link-step, list-step, step-unlisted, cu-listed, step-dsn, cr-bare}
 use Rattle.context.proofs.Ready.{ready-held}
 use Rattle.context.proofs.Lost.{related-lost, moved-held, step-context}
 use Rattle.context.proofs.Arrives.{related-arrives, related-full}
@@ -144,3 +146,68 @@ module _ (n : ℕ) (h : Header) (r : HeaderInRange h) where
         full-stepOn k =
             stepOn-either n h c (λ a. a .kind ≡ FullHeader → Arrives n v h a) (λ e. arrives-first)
             (λ live e. related-full n v h c r k (flow live) e)
+
+---- What its link packet carries can be read back, whatever its kind
+
+-- a full header on context i of k
+pub full-fits : {h : Header} {a : Step} → Writable h a → {k i : ℕ} → k ≤ 256 → i < k
+    → FhFits k i (a .link .generation) (a .link .sequence) h
+full-fits w few known =
+    record { few = few; known = known; young = w .generation; small = w .sequence; range = w .header }
+
+-- a CU and a CR
+pub record Carried (a : Step) : Type 0 where
+  pub udp : a .kind ≡ CompressedUdp → CuFits (a .link .sequence) (checksumSent (a .context)) (a .parts)
+  pub rtp : a .kind ≡ CompressedRtp → CrFits (a .link .sequence) (checksumSent (a .context)) (a .parts)
+
+not-second : (m q t d : Bool) → q ≡ false → (m && q && t && d) ≡ true → ⊥
+not-second m q t d e f =
+    let a = and-eq-true-iff (m && q && t) d .0 f in
+    let b = and-eq-true-iff (m && q) t .0 (a .0) in
+    false≢true (sym e ∙ and-eq-true-iff m q .0 (b .0) .1)
+
+module _ (n : ℕ) (h : Header) (r : HeaderInRange h) (c : CompressorContext) where
+  -- the first packet is a full header
+  first-full : (k : Kind) → firstStep n h firstLink .kind ≡ k → isFull k ≡ true
+  unfolding firstStep
+  first-full k e = ap isFull (sym e)
+
+  carried-first : Carried (firstStep n h firstLink)
+  carried-first = record {
+    udp = λ e. absurd (false≢true (first-full CompressedUdp e));
+    rtp = λ e. absurd (false≢true (first-full CompressedRtp e));
+  }
+
+  module _ (held : Held c) (sound : soundCompressor n c ≡ true) (live : c .status ≡ Live) where
+    small-stepOf : stepOf n h c .link .sequence < 16
+    small-stepOf = omega (arith, soundLink-bounds (stepOf n h c .link) (link-step n h c live sound) .sequence)
+
+    udp-stepOf : stepOf n h c .kind ≡ CompressedUdp
+        → CuFits (stepOf n h c .link .sequence) (checksumSent (stepOf n h c .context)) (stepOf n h c .parts)
+    udp-stepOf k = record {
+      parts = parts-step n h c r held live sound;
+      small = small-stepOf;
+      dsn = step-dsn n h c;
+      listed = cu-listed n h c k;
+    }
+
+    rtp-stepOf : stepOf n h c .kind ≡ CompressedRtp
+        → CrFits (stepOf n h c .link .sequence) (checksumSent (stepOf n h c .context)) (stepOf n h c .parts)
+    rtp-stepOf k =
+        let p = stepOf n h c .parts in
+        let b = cr-bare n h c k in
+        record {
+          parts = parts-step n h c r held live sound;
+          small = small-stepOf;
+          id = b .id;
+          sequence = b .sequence;
+          timestamp = b .timestamp;
+          payload = b .payload;
+          unlisted = step-unlisted n h c;
+          second = λ e. absurd (not-second (p .marker) (p .dsn .sent) (p .dts .sent) (p .did .sent) (b .dsn) e);
+        }
+
+  pub carried-stepOn : Held c → soundCompressor n c ≡ true → Carried (stepOn n h c)
+  carried-stepOn held sound =
+      stepOn-either n h c Carried carried-first
+      (λ live. record { udp = udp-stepOf held sound live; rtp = rtp-stepOf held sound live })

@@ -45,10 +45,10 @@ fn receive_parts(
     requires { ⌜ (n ≤ 14) × (q < 16) × (c .status ≡ Live) × (soundDecompressor c ≡ true) × PartsSound (x .parts) × (x .place .cursor .at ≤ length (now s)) × (length (now s) ≤ 1500) ⌝ }
     ensures { λ r. ⌜ Takes n c r (now (out .exit)) (λ t i. receiveParts x t i q (now (s .entry)) (now (out .entry))) ⌝ }
 {
-    let p = x.parts;
+    let parts = x.parts;
     let place = x.place;
-    let a = apply(n, q, c, p);
-    settle_read(c, place, a, p.checksum, s, out)
+    let applied = apply(n, q, c, parts);
+    settle_read(c, place, applied, parts.checksum, s, out)
 }
 
 // A CU without F, taken whole.
@@ -56,14 +56,14 @@ fn receive_whole(n: u8, c: DecompressorContext, h: Head, s: &[u8], out: &mut [u8
     requires { ⌜ HeadRead n c h (now s) × (c .status ≡ Live) ⌝ }
     ensures { λ r. ⌜ Takes n c r (now (out .exit)) (λ t i. receiveOld oldform.Taken t i h (now (s .entry)) (now (out .entry))) ⌝ }
 {
-    let f = h.flags;
+    let flags = h.flags;
     let carried = reads_checksum(c);
-    let x = read_cu_whole(s, h.place, f, carried);
-    let p = x.parts;
-    let w = x.header;
-    let place = x.place;
-    let a = apply_whole(n, f.low, c, p, w);
-    settle_read(c, place, a, p.checksum, s, out)
+    let read = read_cu_whole(s, h.place, flags, carried);
+    let parts = read.parts;
+    let header = read.header;
+    let place = read.place;
+    let applied = apply_whole(n, flags.low, c, parts, header);
+    settle_read(c, place, applied, parts.checksum, s, out)
 }
 
 fn receive_udp(
@@ -77,12 +77,12 @@ fn receive_udp(
     requires { ⌜ HeadRead n c h (now s) × (c .status ≡ Live) ⌝ }
     ensures { λ r. ⌜ Takes n c r (now (out .exit)) (λ t i. receiveUdp old t i h (now (s .entry)) (now (out .entry))) ⌝ }
 {
-    let f = h.flags;
-    let flags = split_flags(f);
+    let bits = h.flags;
+    let flags = split_flags(bits);
     if flags.values {
         let carried = reads_checksum(c);
-        let x = read_cu(s, h.place, f, carried);
-        return receive_parts(n, f.low, c, x, s, out);
+        let read = read_cu(s, h.place, bits, carried);
+        return receive_parts(n, bits.low, c, read, s, out);
     }
     match old {
         OldForm::Taken => receive_whole(n, c, h, s, out),
@@ -93,10 +93,10 @@ fn receive_rtp(n: u8, c: DecompressorContext, h: Head, s: &[u8], out: &mut [u8])
     requires { ⌜ HeadRead n c h (now s) × (c .status ≡ Live) ⌝ }
     ensures { λ r. ⌜ Takes n c r (now (out .exit)) (λ t i. receiveRtp t i h (now (s .entry)) (now (out .entry))) ⌝ }
 {
-    let f = h.flags;
+    let flags = h.flags;
     let carried = reads_checksum(c);
-    let x = read_cr(s, h.place, f, carried);
-    receive_parts(n, f.low, c, x, s, out)
+    let read = read_cr(s, h.place, flags, carried);
+    receive_parts(n, flags.low, c, read, s, out)
 }
 
 // A context that is not live takes neither a CU nor a CR, and is left broken.
@@ -150,8 +150,8 @@ pub fn receive_compressed(old: OldForm, kind: u32, t: Table, s: &[u8], out: &mut
             table: t,
         };
     }
-    let h = read_head(s, first.place);
-    let place = h.place;
+    let head = read_head(s, first.place);
+    let place = head.place;
     let found = place.verdict;
     if !is_accepted(found) {
         return Answer {
@@ -160,10 +160,10 @@ pub fn receive_compressed(old: OldForm, kind: u32, t: Table, s: &[u8], out: &mut
         };
     }
     let i = number as usize;
-    let c = t.contexts[i];
-    let x = receive_on(old, kind, settings.repeats, c, h, s, out);
-    let outcome = x.outcome;
-    let after = x.context;
+    let context = t.contexts[i];
+    let taken = receive_on(old, kind, settings.repeats, context, head, s, out);
+    let outcome = taken.outcome;
+    let after = taken.context;
     let mut next = t;
     next.contexts[i] = after;
     Answer {

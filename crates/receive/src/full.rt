@@ -29,18 +29,18 @@ fn accept_full(t: Table, s: &[u8], out: &mut [u8]) -> Answer
             table: t,
         };
     }
-    let f = read_fh(s);
-    let h = f.header;
-    let start = f.start;
-    put_packet(out, h, &s[start..], size);
+    let full = read_fh(s);
+    let header = full.header;
+    let start = full.start;
+    put_packet(out, header, &s[start..], size);
     let link = Link {
-        sequence: f.link,
-        generation: f.generation,
+        sequence: full.link,
+        generation: full.generation,
     };
-    let c = fill(h, link);
-    let i = f.context as usize;
+    let context = fill(header, link);
+    let i = full.context as usize;
     let mut next = t;
-    next.contexts[i] = c;
+    next.contexts[i] = context;
     Answer {
         outcome: Outcome::Accepted(size),
         table: next,

@@ -23,6 +23,6 @@ pub fn put_packet(out: &mut [u8], h: Header, rest: &[u8], size: usize) -> usize
     requires { ⌜ Narrow h × (size ≡ headerSize h + length (now rest)) × (size ≤ 1500) × (size ≤ length (now out)) ⌝ }
     ensures { λ r. ⌜ Wrote (now (out .entry)) (now (out .exit)) 0 r (packetOf h (now (rest .entry))) ⌝ }
 {
-    let a = put_printed(out, 0, h, size as u16);
-    put_all(out, a, rest)
+    let past = put_printed(out, 0, h, size as u16);
+    put_all(out, past, rest)
 }

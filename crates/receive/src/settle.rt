@@ -36,8 +36,8 @@ pub fn rebuild_to(
     requires { ⌜ Narrow (rebuilt c sent) × (length (now rest) ≤ 1500) ⌝ }
     ensures { λ r. ⌜ ((n : ℕ) → Takes n before r (now (out .exit)) (λ t i. rebuildTo t i c sent (now (rest .entry)) (now (out .entry)))) ⌝ }
 {
-    let h = rebuild(c, sent);
-    let size = packet_size(h, rest);
+    let header = rebuild(c, sent);
+    let size = packet_size(header, rest);
     if Settings::LONGEST < size {
         return Taken {
             outcome: Outcome::Refused(Refusal::TooLong),
@@ -50,7 +50,7 @@ pub fn rebuild_to(
             context: before,
         };
     }
-    put_packet(out, h, rest, size);
+    put_packet(out, header, rest, size);
     Taken {
         outcome: Outcome::Accepted(size),
         context: c,
@@ -69,12 +69,12 @@ pub fn settle(
     ensures { λ r. ⌜ ((n : ℕ) → Takes n before r (now (out .exit)) (λ t i. settle a t i sent (now (rest .entry)) (now (out .entry)))) ⌝ }
 {
     let found = a.verdict;
-    let c = a.context;
+    let context = a.context;
     match found {
-        Verdict::Accepted => { rebuild_to(before, c, sent, rest, out) }
+        Verdict::Accepted => { rebuild_to(before, context, sent, rest, out) }
         Verdict::Refused(why) => Taken {
             outcome: Outcome::Refused(why),
-            context: c,
+            context: context,
         },
     }
 }

@@ -39,16 +39,16 @@ fn act_on_all(t: Table, s: &[u8]) -> Table
     requires { ⌜ (t .settings .repeats ≤ 14) × (t .settings .contexts ≤ 64) × RequestGood (t .settings .contexts) (now s) ⌝ }
     ensures { λ r. ⌜ r ≡ requestTable t (now (s .entry)) ⌝ }
 {
-    let n = t.settings.repeats;
+    let repeats = t.settings.repeats;
     let count = record_count(s);
     let mut next = t;
     let mut i = 0;
     while i < count {
         let asks = record_asks(s, i);
         let place = record_context(s, i) as usize;
-        let c = next.contexts[place];
-        let d = act_on(n, asks, c);
-        next.contexts[place] = d;
+        let context = next.contexts[place];
+        let asked = act_on(repeats, asks, context);
+        next.contexts[place] = asked;
         i += 1;
     }
     next

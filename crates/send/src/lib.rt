@@ -36,9 +36,9 @@ fn send_plain(t: Table, p: &[u8], out: &mut [u8]) -> Answer
             table: t,
         };
     }
-    let n = put_all(out, 0, p);
+    let length = put_all(out, 0, p);
     Answer {
-        outcome: Outcome::Accepted(0, n),
+        outcome: Outcome::Accepted(0, length),
         table: t,
     }
 }
@@ -48,25 +48,25 @@ fn send_on(t: Table, i: usize, p: &[u8], h: Header, out: &mut [u8]) -> Answer
     requires { ⌜ Ready t i (now p) h ⌝ }
     ensures { λ r. ⌜ said r (now (out .exit)) ≡ sendWith t i (now (p .entry)) (now (out .entry)) h ⌝ }
 {
-    let c = t.contexts[i];
-    let a = step_on(t.settings.repeats, h, c);
+    let context = t.contexts[i];
+    let step = step_on(t.settings.repeats, h, context);
     let start = header_size(h);
     let tail = &p[start..];
-    let size = link_size(h, a) + tail.len();
+    let size = link_size(h, step) + tail.len();
     if out.len() < size {
         return Answer {
             outcome: Outcome::Refused(Refusal::NoRoom),
             table: t,
         };
     }
-    let past = put_link(out, i as u8, p.len() as u16, h, a);
+    let past = put_link(out, i as u8, p.len() as u16, h, step);
     let length = put_all(out, past, tail);
-    let k = a.kind;
-    let after = a.context;
+    let kind = step.kind;
+    let after = step.context;
     let mut next = t;
     next.contexts[i] = after;
     Answer {
-        outcome: Outcome::Accepted(kind_number(k), length),
+        outcome: Outcome::Accepted(kind_number(kind), length),
         table: next,
     }
 }
@@ -91,10 +91,10 @@ pub fn send(t: Table, p: &[u8], out: &mut [u8]) -> Answer
     if !is_compressible(p) {
         return send_plain(t, p, out);
     }
-    let h = read_header(p);
-    let flow = h.flow;
+    let header = read_header(p);
+    let flow = header.flow;
     match find(t, flow) {
-        Found::At(i) => send_on(t, i, p, h, out),
+        Found::At(i) => send_on(t, i, p, header, out),
         Found::Nowhere => send_plain(t, p, out),
     }
 }

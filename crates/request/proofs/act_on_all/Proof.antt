@@ -30,22 +30,22 @@ record-context-requires c κs = let g = c .before .before .before .before .befor
 cast-place : tie.Need-cast-place Inv-loop μ-loop
 cast-place c = search needs
 
-mul-c : tie.Need-mul-c Inv-loop μ-loop
-mul-c c = search needs
+mul-context : tie.Need-mul-context Inv-loop μ-loop
+mul-context c = search needs
 
-element-copy-out-c : tie.Need-element-copy-out-c Inv-loop μ-loop
-element-copy-out-c c = let g = c .before .before .before .before .before .before .pre in
+element-copy-out-context : tie.Need-element-copy-out-context Inv-loop μ-loop
+element-copy-out-context c = let g = c .before .before .before .before .before .before .pre in
     let i = c .before .before .before .loop .i in
     omega (arith, g .1, g .2 .contexts i (omega (arith, c .before .before .before .before .record-count .ensures)), c .record-context .ensures, c .before .before .before .loop .inv .1)
 
 act-on-requires : tie.Need-act-on-requires Inv-loop μ-loop
 act-on-requires c κs = search needs
 
-mul-d : tie.Need-mul-d Inv-loop μ-loop
-mul-d c = search needs
+mul-asked : tie.Need-mul-asked Inv-loop μ-loop
+mul-asked c = search needs
 
-element-set-from-d : tie.Need-element-set-from-d Inv-loop μ-loop
-element-set-from-d c = let g = c .before .before .before .before .before .before .before .before .pre in
+element-set-from-asked : tie.Need-element-set-from-asked Inv-loop μ-loop
+element-set-from-asked c = let g = c .before .before .before .before .before .before .before .before .pre in
     let i = c .before .before .before .before .before .loop .i in
     omega (arith, g .1, g .2 .contexts i (omega (arith, c .before .before .before .before .before .before .record-count .ensures)), c .before .before .record-context .ensures, c .before .before .before .before .before .loop .inv .1)
 
@@ -81,11 +81,11 @@ act-on-all-spec =
     record-asks-requires
     record-context-requires
     cast-place
-    mul-c
-    element-copy-out-c
+    mul-context
+    element-copy-out-context
     act-on-requires
-    mul-d
-    element-set-from-d
+    mul-asked
+    element-set-from-asked
     add-i
     loop-less
     loop-again

@@ -5,11 +5,11 @@ use borrow.Author.Needs.{needs}
 use Rattle.send.proofs.send_on.Statement.{statement}
 use Rattle.send.proofs.send_on.Tie as tie
 
-mul-c : tie.Need-mul-c
-mul-c c = search needs
+mul-context : tie.Need-mul-context
+mul-context c = search needs
 
-element-copy-out-c : tie.Need-element-copy-out-c
-element-copy-out-c c = search needs
+element-copy-out-context : tie.Need-element-copy-out-context
+element-copy-out-context c = search needs
 
 step-on-requires : tie.Need-step-on-requires
 step-on-requires c κs = search needs
@@ -89,8 +89,8 @@ pub send-on-spec : {M : Type 1} → statement M
 send-on-spec =
     tie.close
     (tie.spec
-    mul-c
-    element-copy-out-c
+    mul-context
+    element-copy-out-context
     step-on-requires
     header-size-requires
     sub-tail

@@ -9,8 +9,8 @@ is-accepted-requires c κs = search needs
 byte-requires : tie.Need-byte-requires
 byte-requires c κs = search needs
 
-enum-known-v : tie.Need-enum-known-v
-enum-known-v c = search needs
+enum-known-value : tie.Need-enum-known-value
+enum-known-value c = search needs
 
 there8-requires : tie.Need-there8-requires
 there8-requires c κs = search needs
@@ -29,7 +29,7 @@ none8-requires-2 c κs = search needs
 
 returns : tie.Need-returns
 unfolding nextByte next
-returns c = rw (c .there8 .ensures, ← c .before .before .before .before .before .before .is-accepted .ensures, c .before .before .before .before .before .if1 .taken, ← c .before .before .before .before .byte .ensures, c .before .before .v .given .1)
+returns c = rw (c .there8 .ensures, ← c .before .before .before .before .before .before .is-accepted .ensures, c .before .before .before .before .before .if1 .taken, ← c .before .before .before .before .byte .ensures, c .before .before .value .given .1)
 
 returns-2 : tie.Need-returns-2
 unfolding nextByte next
@@ -45,7 +45,7 @@ next-byte-spec =
     (tie.spec
     is-accepted-requires
     byte-requires
-    enum-known-v
+    enum-known-value
     there8-requires
     enum-told
     stop-requires

@@ -9,8 +9,8 @@ is-accepted-requires c κs = search needs
 delta16-requires : tie.Need-delta16-requires
 delta16-requires c κs = search needs
 
-enum-known-v : tie.Need-enum-known-v
-enum-known-v c = search needs
+enum-known-value : tie.Need-enum-known-value
+enum-known-value c = search needs
 
 there16-requires : tie.Need-there16-requires
 there16-requires c κs = search needs
@@ -38,7 +38,7 @@ none16-requires-3 c κs = search needs
 
 returns : tie.Need-returns
 unfolding nextDelta16 next
-returns c = rw (c .there16 .ensures, ← c .before .before .before .before .before .before .is-accepted .ensures, c .before .before .before .before .before .if1 .taken, ← c .before .before .before .before .delta16 .ensures, c .before .before .v .given .1)
+returns c = rw (c .there16 .ensures, ← c .before .before .before .before .before .before .is-accepted .ensures, c .before .before .before .before .before .if1 .taken, ← c .before .before .before .before .delta16 .ensures, c .before .before .value .given .1)
 
 returns-2 : tie.Need-returns-2
 unfolding nextDelta16 next
@@ -58,7 +58,7 @@ next-delta16-spec =
     (tie.spec
     is-accepted-requires
     delta16-requires
-    enum-known-v
+    enum-known-value
     there16-requires
     enum-told
     stop-requires

@@ -9,8 +9,8 @@ is-accepted-requires c κs = search needs
 delta32-requires : tie.Need-delta32-requires
 delta32-requires c κs = search needs
 
-enum-known-v : tie.Need-enum-known-v
-enum-known-v c = search needs
+enum-known-value : tie.Need-enum-known-value
+enum-known-value c = search needs
 
 there32-requires : tie.Need-there32-requires
 there32-requires c κs = search needs
@@ -38,7 +38,7 @@ none32-requires-3 c κs = search needs
 
 returns : tie.Need-returns
 unfolding nextDelta32 next
-returns c = rw (c .there32 .ensures, ← c .before .before .before .before .before .before .is-accepted .ensures, c .before .before .before .before .before .if1 .taken, ← c .before .before .before .before .delta32 .ensures, c .before .before .v .given .1)
+returns c = rw (c .there32 .ensures, ← c .before .before .before .before .before .before .is-accepted .ensures, c .before .before .before .before .before .if1 .taken, ← c .before .before .before .before .delta32 .ensures, c .before .before .value .given .1)
 
 returns-2 : tie.Need-returns-2
 unfolding nextDelta32 next
@@ -58,7 +58,7 @@ next-delta32-spec =
     (tie.spec
     is-accepted-requires
     delta32-requires
-    enum-known-v
+    enum-known-value
     there32-requires
     enum-told
     stop-requires

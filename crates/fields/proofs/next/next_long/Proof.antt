@@ -9,8 +9,8 @@ is-accepted-requires c κs = search needs
 long-requires : tie.Need-long-requires
 long-requires c κs = search needs
 
-enum-known-v : tie.Need-enum-known-v
-enum-known-v c = search needs
+enum-known-value : tie.Need-enum-known-value
+enum-known-value c = search needs
 
 there32-requires : tie.Need-there32-requires
 there32-requires c κs = search needs
@@ -29,7 +29,7 @@ none32-requires-2 c κs = search needs
 
 returns : tie.Need-returns
 unfolding nextLong next
-returns c = rw (c .there32 .ensures, ← c .before .before .before .before .before .before .is-accepted .ensures, c .before .before .before .before .before .if1 .taken, ← c .before .before .before .before .long .ensures, c .before .before .v .given .1)
+returns c = rw (c .there32 .ensures, ← c .before .before .before .before .before .before .is-accepted .ensures, c .before .before .before .before .before .if1 .taken, ← c .before .before .before .before .long .ensures, c .before .before .value .given .1)
 
 returns-2 : tie.Need-returns-2
 unfolding nextLong next
@@ -45,7 +45,7 @@ next-long-spec =
     (tie.spec
     is-accepted-requires
     long-requires
-    enum-known-v
+    enum-known-value
     there32-requires
     enum-told
     stop-requires

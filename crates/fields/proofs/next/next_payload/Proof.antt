@@ -11,15 +11,15 @@ is-accepted-requires c κs = search needs
 byte-requires : tie.Need-byte-requires
 byte-requires c κs = search needs
 
-enum-known-v : tie.Need-enum-known-v
-enum-known-v c = search needs
+enum-known-value : tie.Need-enum-known-value
+enum-known-value c = search needs
 
 there8-requires : tie.Need-there8-requires
 there8-requires c κs = search needs
 
 returns : tie.Need-returns
 unfolding nextPayload readPayload next
-returns c = rw (c .there8 .ensures, ← c .before .before .before .before .before .before .before .is-accepted .ensures, c .before .before .before .before .before .before .if1 .taken, ← c .before .before .before .before .before .byte .ensures, c .before .before .before .v .given .1, lt-ltb (c .before .before .before .v .given .0 .0) 128 (omega (arith, c .before .if2 .taken)))
+returns c = rw (c .there8 .ensures, ← c .before .before .before .before .before .before .before .is-accepted .ensures, c .before .before .before .before .before .before .if1 .taken, ← c .before .before .before .before .before .byte .ensures, c .before .before .before .value .given .1, lt-ltb (c .before .before .before .value .given .0 .0) 128 (omega (arith, c .before .if2 .taken)))
 
 stop-requires : tie.Need-stop-requires
 stop-requires c κs = search needs
@@ -41,7 +41,7 @@ none8-requires-3 c κs = search needs
 
 returns-2 : tie.Need-returns-2
 unfolding nextPayload readPayload next
-returns-2 c = rw (c .none8 .ensures, c .before .stop .ensures, ← c .before .before .before .before .before .before .before .before .is-accepted .ensures, c .before .before .before .before .before .before .before .if1 .taken, ← c .before .before .before .before .before .before .byte .ensures, c .before .before .before .before .v .given .1, le-ltb (c .before .before .before .before .v .given .0 .0) 128 (omega (arith, c .before .before .if2 .left)))
+returns-2 c = rw (c .none8 .ensures, c .before .stop .ensures, ← c .before .before .before .before .before .before .before .before .is-accepted .ensures, c .before .before .before .before .before .before .before .if1 .taken, ← c .before .before .before .before .before .before .byte .ensures, c .before .before .before .before .value .given .1, le-ltb (c .before .before .before .before .value .given .0 .0) 128 (omega (arith, c .before .before .if2 .left)))
 
 returns-3 : tie.Need-returns-3
 unfolding nextPayload readPayload next
@@ -57,7 +57,7 @@ next-payload-spec =
     (tie.spec
     is-accepted-requires
     byte-requires
-    enum-known-v
+    enum-known-value
     there8-requires
     returns
     stop-requires

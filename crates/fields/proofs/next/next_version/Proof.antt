@@ -30,15 +30,15 @@ returns-2 c = rw (c .none82 .ensures, c .before .stop .ensures, ← c .before .b
 byte-requires : tie.Need-byte-requires
 byte-requires c κs = search needs
 
-enum-known-v : tie.Need-enum-known-v
-enum-known-v c = search needs
+enum-known-value : tie.Need-enum-known-value
+enum-known-value c = search needs
 
 there8-requires : tie.Need-there8-requires
 there8-requires c κs = search needs
 
 returns-3 : tie.Need-returns-3
 unfolding nextVersion readVersion next
-returns-3 c = rw (c .there8 .ensures, ← c .before .before .before .before .before .before .before .before .before .is-accepted .ensures, not-false (c .before .before .before .before .before .before .before .before .before .is-accepted .result) (c .before .before .before .before .before .before .before .before .if1 .left), ← c .before .before .before .before .before .before .before .has .ensures, not-false (c .before .before .before .before .before .before .before .has .result) (c .before .before .before .before .before .before .if2 .left), ← c .before .before .before .before .before .byte .ensures, c .before .before .before .v .given .1, eq-eqb _ 2 (c .before .if3 .taken))
+returns-3 c = rw (c .there8 .ensures, ← c .before .before .before .before .before .before .before .before .before .is-accepted .ensures, not-false (c .before .before .before .before .before .before .before .before .before .is-accepted .result) (c .before .before .before .before .before .before .before .before .if1 .left), ← c .before .before .before .before .before .before .before .has .ensures, not-false (c .before .before .before .before .before .before .before .has .result) (c .before .before .before .before .before .before .if2 .left), ← c .before .before .before .before .before .byte .ensures, c .before .before .before .value .given .1, eq-eqb _ 2 (c .before .if3 .taken))
 
 stop-requires-2 : tie.Need-stop-requires-2
 stop-requires-2 c κs = search needs
@@ -57,7 +57,7 @@ none8-requires-4 c κs = search needs
 
 returns-4 : tie.Need-returns-4
 unfolding nextVersion readVersion next
-returns-4 c = rw (c .none83 .ensures, c .before .stop2 .ensures, ← c .before .before .before .before .before .before .before .before .before .before .is-accepted .ensures, not-false (c .before .before .before .before .before .before .before .before .before .before .is-accepted .result) (c .before .before .before .before .before .before .before .before .before .if1 .left), ← c .before .before .before .before .before .before .before .before .has .ensures, not-false (c .before .before .before .before .before .before .before .before .has .result) (c .before .before .before .before .before .before .before .if2 .left), ← c .before .before .before .before .before .before .byte .ensures, c .before .before .before .before .v .given .1, ne-eqb _ 2 (c .before .before .if3 .left))
+returns-4 c = rw (c .none83 .ensures, c .before .stop2 .ensures, ← c .before .before .before .before .before .before .before .before .before .before .is-accepted .ensures, not-false (c .before .before .before .before .before .before .before .before .before .before .is-accepted .result) (c .before .before .before .before .before .before .before .before .before .if1 .left), ← c .before .before .before .before .before .before .before .before .has .ensures, not-false (c .before .before .before .before .before .before .before .before .has .result) (c .before .before .before .before .before .before .before .if2 .left), ← c .before .before .before .before .before .before .byte .ensures, c .before .before .before .before .value .given .1, ne-eqb _ 2 (c .before .before .if3 .left))
 
 returns-5 : tie.Need-returns-5
 unfolding nextVersion readVersion next
@@ -75,7 +75,7 @@ next-version-spec =
     none8-requires-2
     returns-2
     byte-requires
-    enum-known-v
+    enum-known-value
     there8-requires
     returns-3
     stop-requires-2

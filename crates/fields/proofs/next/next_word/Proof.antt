@@ -9,8 +9,8 @@ is-accepted-requires c κs = search needs
 word-requires : tie.Need-word-requires
 word-requires c κs = search needs
 
-enum-known-v : tie.Need-enum-known-v
-enum-known-v c = search needs
+enum-known-value : tie.Need-enum-known-value
+enum-known-value c = search needs
 
 there16-requires : tie.Need-there16-requires
 there16-requires c κs = search needs
@@ -29,7 +29,7 @@ none16-requires-2 c κs = search needs
 
 returns : tie.Need-returns
 unfolding nextWord next
-returns c = rw (c .there16 .ensures, ← c .before .before .before .before .before .before .is-accepted .ensures, c .before .before .before .before .before .if1 .taken, ← c .before .before .before .before .word .ensures, c .before .before .v .given .1)
+returns c = rw (c .there16 .ensures, ← c .before .before .before .before .before .before .is-accepted .ensures, c .before .before .before .before .before .if1 .taken, ← c .before .before .before .before .word .ensures, c .before .before .value .given .1)
 
 returns-2 : tie.Need-returns-2
 unfolding nextWord next
@@ -45,7 +45,7 @@ next-word-spec =
     (tie.spec
     is-accepted-requires
     word-requires
-    enum-known-v
+    enum-known-value
     there16-requires
     enum-told
     stop-requires

@@ -53,11 +53,11 @@ returns-2 c =
 cast-i : tie.Need-cast-i
 cast-i c = search needs
 
-mul-c : tie.Need-mul-c
-mul-c c = search needs
+mul-context : tie.Need-mul-context
+mul-context c = search needs
 
-element-copy-out-c : tie.Need-element-copy-out-c
-element-copy-out-c c =
+element-copy-out-context : tie.Need-element-copy-out-context
+element-copy-out-context c =
     let b4 = c .before .before .before .before in
     let b11 = b4 .before .before .before .before .before .before .before in
     omega (arith, b4 .if1 .left, sound-most (b11 .args .t3) (b11 .pre .0))
@@ -114,8 +114,8 @@ receive-compressed-spec =
     is-accepted-requires
     returns-2
     cast-i
-    mul-c
-    element-copy-out-c
+    mul-context
+    element-copy-out-context
     receive-on-requires
     mul-after
     element-set-from-after

@@ -45,11 +45,11 @@ fill-requires c κs = search needs
 cast-i : tie.Need-cast-i
 cast-i c = search needs
 
-mul-c : tie.Need-mul-c
-mul-c c = search needs
+mul-context : tie.Need-mul-context
+mul-context c = search needs
 
-element-set-from-c : tie.Need-element-set-from-c
-element-set-from-c c = let a = c .before .before .before .before .before .before .before .before .before .before .before .before .args in
+element-set-from-context : tie.Need-element-set-from-context
+element-set-from-context c = let a = c .before .before .before .before .before .before .before .before .before .before .before .before .args in
     let p = c .before .before .before .before .before .before .before .before .before .before .before .before .pre in
     rw (c .before .before .before .before .before .before .before .before .read-fh .ensures) (omega (arith, fhOf-context (a .s .now) (a .t .settings .contexts) (p .1), sound-most (a .t) (p .0)))
 
@@ -77,7 +77,7 @@ accept-full-spec =
     put-packet-requires
     fill-requires
     cast-i
-    mul-c
-    element-set-from-c
+    mul-context
+    element-set-from-context
     same-length
     returns-2)
