@@ -30,7 +30,8 @@ refused t n output = record { number = n; kind = 0; length = 0; output = output;
 
 -- 11 where the output is shorter than the exact result
 abbrev pub delivered : (before after : Table) → (kind : ℕ) → (bytes output : List ℕ) → Result
-delivered before after k bytes output = cond (ltb (length output) (length bytes)) (refused before 11 output) (accepted after k bytes output)
+delivered before after k bytes output = cond (ltb (length output) (length bytes)) (refused before 11 output)
+    (accepted after k bytes output)
 
 ---- number and values of each outcome
 
@@ -48,4 +49,11 @@ lengthOf (Refused r) = 0
 
 -- what a call's answer says, with the output that it left
 abbrev pub said : Answer → (output : List ℕ) → Result
-said a output = record { number = numberOf (a .outcome); kind = typeOf (a .outcome); length = lengthOf (a .outcome); output = output; table = a .table }
+said a output = record {
+  number = numberOf (a .outcome);
+  kind = typeOf (a .outcome);
+  length = lengthOf (a .outcome);
+  output =
+      output;
+  table = a .table;
+}

@@ -7,8 +7,8 @@ pub mod LookupLaws
 pub mod Send
 pub mod SendLaws
 pub mod SentLaws
-pub mod Ready
-pub mod ReadyLaws
+pub mod CanSend
+pub mod CanSendLaws
 pub mod SoundLaws
 pub mod Request
 pub mod RequestLaws

@@ -35,4 +35,5 @@ orElse Nowhere other = other
 
 -- the lowest context of the flow, else the lowest empty one, among those that the settings give
 unfoldable pub placeOf : Table → Flow → Found
-placeOf t f = orElse (lowest (isOf f) (t .contexts) 0 (t .settings .contexts)) (lowest isEmpty (t .contexts) 0 (t .settings .contexts))
+placeOf t f = orElse (lowest (isOf f) (t .contexts) 0 (t .settings .contexts))
+    (lowest isEmpty (t .contexts) 0 (t .settings .contexts))

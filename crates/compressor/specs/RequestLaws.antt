@@ -20,7 +20,7 @@ use Rattle.context.specs.declared.compressor.Usage.{Usage}
 use Rattle.context.specs.declared.compressor.Usage.the-variants.{Empty, Live}
 use Rattle.context.specs.declared.compressor.CompressorContext.{CompressorContext}
 use Rattle.context.proofs.CompressorSound.{sound-requested, requested-kept}
-use Rattle.context.proofs.Ready.{started-held}
+use Rattle.context.proofs.Begun.{started-held}
 use Rattle.context.proofs.Tests.{cond-both}
 use Rattle.compressor.specs.declared.table.Table.{Table}
 use Rattle.compressor.specs.Answer.{refused}

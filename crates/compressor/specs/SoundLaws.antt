@@ -24,7 +24,7 @@ use Rattle.compressor.specs.Table.{Sound}
 use Rattle.compressor.specs.TableLaws.{soundOf-true, set-keeps, sound-withContext}
 use Rattle.compressor.specs.Send.{sendOf}
 use Rattle.compressor.specs.SendLaws.{On, stepAt, tableAt, Goes, goes-refused, goes-plain, goes-on, sendOf-goes}
-use Rattle.compressor.specs.ReadyLaws.{sound-most, sound-contextAt}
+use Rattle.compressor.specs.CanSendLaws.{sound-most, sound-contextAt}
 
 ---- A packet on context i
 

@@ -37,7 +37,9 @@ pub fn is_empty(c: CompressorContext) -> bool
 // own would have the table copied once more.
 fn all_sound(t: Table) -> bool
     requires { ⌜ t .settings .repeats ≤ 14 ⌝ }
-    ensures { λ r. ⌜ r ≡ (all (soundCompressor (t .settings .repeats)) (t .contexts) && all isEmpty (drop (t .settings .contexts) (t .contexts))) ⌝ }
+    ensures { λ r. ⌜ r
+        ≡ (all (soundCompressor (t .settings .repeats)) (t .contexts)
+        && all isEmpty (drop (t .settings .contexts) (t .contexts))) ⌝ }
 {
     let repeats = t.settings.repeats;
     let count = t.settings.contexts as usize;

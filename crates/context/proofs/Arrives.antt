@@ -14,10 +14,12 @@ use Rattle.packet.specs.declared.csrc.Csrc.{Csrc}
 use Rattle.packet.specs.declared.header.Header.{Header}
 use Rattle.packet.specs.declared.parts.Parts.{Parts}
 use Rattle.context.specs.Field.{nextSequence, offPattern, isDue, movedOn}
-use Rattle.context.specs.Compressor.{resetDeltas, sameConstants, begun, reset, judged, adoptsId, adoptsTimestamp, dueNow, anyDue, kindOf, listIf, partsOf, deltasAfter, moved, sentWith, sentFrom, stepOf}
+use Rattle.context.specs.Compressor.{resetDeltas, sameConstants, begun, reset, judged, adoptsId, adoptsTimestamp, dueNow}
+use Rattle.context.specs.Compressor.{anyDue, kindOf, listIf, partsOf, deltasAfter, moved, sentWith, sentFrom, stepOf}
 use Rattle.context.specs.Decompressor.{filled, ipAfter, rtpAfter, deltasHeld, advanced, applied, rebuilt}
 use Rattle.context.proofs.Relation.{Held}
-use Rattle.context.proofs.Relation.{Constants, Running, Close, Related, Arrives, received, isFull, idTrack, idSeen, sequenceTrack, sequenceSeen, timestampTrack, timestampSeen}
+use Rattle.context.proofs.Relation.{Constants, Running, Close, Related, Arrives, received, isFull, idTrack, idSeen}
+use Rattle.context.proofs.Relation.{sequenceTrack, sequenceSeen, timestampTrack, timestampSeen}
 use Rattle.context.specs.declared.kept.Deltas.{Deltas}
 use Rattle.context.specs.declared.kept.Link.{Link}
 use Rattle.context.specs.declared.compressor.Usage.the-variants as usage
@@ -26,10 +28,12 @@ use Rattle.context.specs.declared.decompressor.Status.the-variants.{Live
 use Rattle.context.specs.declared.decompressor.DecompressorContext.{DecompressorContext}
 use Rattle.context.specs.declared.step.Kind.{Kind}
 use Rattle.context.specs.declared.step.Kind.the-variants.{FullHeader, CompressedUdp, CompressedRtp}
-use Rattle.context.proofs.Tests.{SameConstants, same-constants, adoptsId-off, adoptsTimestamp-off, adoptsId-full, adoptsTimestamp-full, isDue-false, anyDue-false}
+use Rattle.context.proofs.Tests.{SameConstants, same-constants, adoptsId-off, adoptsTimestamp-off, adoptsId-full}
+use Rattle.context.proofs.Tests.{adoptsTimestamp-full, isDue-false, anyDue-false}
 use Rattle.context.proofs.FieldLaws.{cond-carried, delta-arrives, value-arrives, near-now}
 use Rattle.context.proofs.Gap.{gap-lost, applied-in-step}
-use Rattle.context.proofs.Ready.{started-full, begun-same, begun-started, reset-full, reset-running, ready-same, ready-kept, ready-held}
+use Rattle.context.proofs.Begun.{started-full, begun-same, begun-started, reset-full, reset-running, ready-same, ready-kept}
+use Rattle.context.proofs.Begun.{ready-held}
 use Rattle.context.proofs.Lost.{moved-held, moved-running, moved-full}
 
 ---- The decompressor's context once it has the packet
@@ -103,14 +107,17 @@ close-now n g f h c d flow small e run =
 
 ---- A full header: what it resets to is what the decompressor sets
 
-module _ (n : ℕ) (v : DecompressorContext) (h : Header) (c : CompressorContext) (fits : HeaderInRange h) (held : Held c) (flow : h .flow ≡ c .flow) where
+module _ (n : ℕ) (v : DecompressorContext) (h : Header) (c : CompressorContext) (fits : HeaderInRange h) (held : Held c)
+    (flow : h .flow ≡ c .flow) where
   deltas-full : 1 ≤ c .due .full → Running c → resetDeltas ≡ deltasAfter (c .deltas) (judged h c)
   unfolding deltasAfter judged
-  deltas-full f r = rw (adoptsId-full h c f, adoptsTimestamp-full h c f) (λ i. record { id = sym (r .id) i; timestamp = sym (r .timestamp) i })
+  deltas-full f r = rw (adoptsId-full h c f, adoptsTimestamp-full h c f)
+      (λ i. record { id = sym (r .id) i; timestamp = sym (r .timestamp) i })
 
   close-full : 1 ≤ c .due .full → Running c → Close n 0 (filled h (c .link)) (moved n h c (judged h c))
   unfolding filled
-  close-full f r = close-now n (c .link .generation) true h c resetDeltas flow (held .link) (deltas-full f r) (λ k. moved-running n h c f r)
+  close-full f r = close-now n (c .link .generation) true h c resetDeltas flow (held .link) (deltas-full f r)
+      (λ k. moved-running n h c f r)
 
   kind-full : 1 ≤ c .due .full → (any : Bool) → kindOf (c .due .full) any ≡ FullHeader
   unfolding kindOf
@@ -145,11 +152,14 @@ received-part : (any : Bool) (n : ℕ) (h : Header) (l : Link) (p : Parts) (v : 
 received-part true n h l p v = refl
 received-part false n h l p v = refl
 
-module _ (n j : ℕ) (v : DecompressorContext) (h : Header) (c : CompressorContext) (fits : HeaderInRange h) (held : Held c) (few : j ≤ n) (flow : h .flow ≡ c .flow)
+module _ (n j : ℕ) (v : DecompressorContext) (h : Header) (c : CompressorContext) (fits : HeaderInRange h) (held : Held c)
+    (few : j ≤ n) (flow : h .flow ≡ c .flow)
     (g : SameConstants h c) (m : Close n j v c) where
   number-arrives :
-      movedOn 16 (suc j) (v .rtp .sequence) 1 false 0 (isDue (offPattern 16 (c .rtp .sequence) 1 (h .rtp .sequence)) (c .due .sequence))
-      (cond (isDue (offPattern 16 (c .rtp .sequence) 1 (h .rtp .sequence)) (c .due .sequence)) (h .rtp .sequence) 0) ≡ h .rtp .sequence
+      movedOn 16 (suc j) (v .rtp .sequence) 1 false 0
+      (isDue (offPattern 16 (c .rtp .sequence) 1 (h .rtp .sequence)) (c .due .sequence))
+      (cond (isDue (offPattern 16 (c .rtp .sequence) 1 (h .rtp .sequence)) (c .due .sequence)) (h .rtp .sequence) 0)
+      ≡ h .rtp .sequence
   unfolding isDue
   number-arrives =
       value-arrives 16 n j (sequenceSeen v) (sequenceTrack c) (h .rtp .sequence) (held .sequence) (fits .rtp .sequence)
@@ -157,32 +167,53 @@ module _ (n j : ℕ) (v : DecompressorContext) (h : Header) (c : CompressorConte
 
   payload-arrives :
       cond (isDue (not (eqb (h .rtp .payload) (c .rtp .payload))) (c .due .payload))
-      (cond (isDue (not (eqb (h .rtp .payload) (c .rtp .payload))) (c .due .payload)) (h .rtp .payload) 0) (v .rtp .payload) ≡ h .rtp .payload
-  payload-arrives = cond-carried (isDue (not (eqb (h .rtp .payload) (c .rtp .payload))) (c .due .payload)) (h .rtp .payload) (v .rtp .payload)
+      (cond (isDue (not (eqb (h .rtp .payload) (c .rtp .payload))) (c .due .payload)) (h .rtp .payload) 0) (v .rtp .payload)
+      ≡ h .rtp .payload
+  payload-arrives = cond-carried (isDue (not (eqb (h .rtp .payload) (c .rtp .payload))) (c .due .payload)) (h .rtp .payload)
+      (v .rtp .payload)
       (λ e. let s = isDue-false (not (eqb (h .rtp .payload) (c .rtp .payload))) (c .due .payload) e in
       m .payload (omega (arith, s .1)) ∙ sym (eqb-true (h .rtp .payload) (c .rtp .payload) (not-false _ (s .0))))
 
   list-due : anyDue (dueNow (c .due) (judged h c)) ≡ false → v .csrc ≡ h .csrc
   unfolding judged dueNow
   list-due e =
-      let s = isDue-false (not (sameList (h .csrc) (c .csrc))) (c .due .list) (anyDue-false (dueNow (c .due) (judged h c)) e .list) in
+      let s = isDue-false (not (sameList (h .csrc) (c .csrc))) (c .due .list)
+      (anyDue-false (dueNow (c .due) (judged h c)) e .list) in
       m .list (omega (arith, s .1)) ∙ sym (sameList-true (h .csrc) (c .csrc) (not-false _ (s .0)))
 
-  arrived : advanced (suc j) (c .link .sequence) v (sentFrom n h c .parts) ≡ standing (c .link .sequence) (v .link .generation) (v .filled) h (deltasAfter (c .deltas) (judged h c))
+  arrived : advanced (suc j) (c .link .sequence) v (sentFrom n h c .parts)
+      ≡ standing (c .link .sequence) (v .link .generation) (v .filled) h (deltasAfter (c .deltas) (judged h c))
   unfolding advanced ipAfter rtpAfter deltasHeld sentWith partsOf dueNow deltasAfter judged
   arrived =
       let k : Constants v c = m .constants in
-      let hi = value-arrives 16 n j (idSeen v) (idTrack c) (h .ip .id) (held .id) (fits .ip .id) (offPattern 16 (c .ip .id) (c .deltas .id) (h .ip .id)) (adoptsId h c) (m .id) few refl (adoptsId-off h c) in
-      let ht = value-arrives 32 n j (timestampSeen v) (timestampTrack c) (h .rtp .timestamp) (held .timestamp) (fits .rtp .timestamp) (offPattern 32 (c .rtp .timestamp) (c .deltas .timestamp) (h .rtp .timestamp)) (adoptsTimestamp h c) (m .timestamp) few refl (adoptsTimestamp-off h c) in
+      let hi = value-arrives 16 n j (idSeen v) (idTrack c) (h .ip .id) (held .id) (fits .ip .id)
+      (offPattern 16 (c .ip .id) (c .deltas .id) (h .ip .id)) (adoptsId h c) (m .id) few refl (adoptsId-off h c) in
+      let ht = value-arrives 32 n j (timestampSeen v) (timestampTrack c) (h .rtp .timestamp) (held .timestamp)
+      (fits .rtp .timestamp) (offPattern 32 (c .rtp .timestamp) (c .deltas .timestamp) (h .rtp .timestamp))
+      (adoptsTimestamp h c) (m .timestamp) few refl (adoptsTimestamp-off h c) in
       let di = delta-arrives 16 n j (idSeen v) (idTrack c) (h .ip .id) (held .id) (fits .ip .id) (adoptsId h c) (m .id) few in
-      let dt = delta-arrives 32 n j (timestampSeen v) (timestampTrack c) (h .rtp .timestamp) (held .timestamp) (fits .rtp .timestamp) (adoptsTimestamp h c) (m .timestamp) few in
+      let dt = delta-arrives 32 n j (timestampSeen v) (timestampTrack c) (h .rtp .timestamp) (held .timestamp)
+      (fits .rtp .timestamp) (adoptsTimestamp h c) (m .timestamp) few in
       let hl = list-arrives (anyDue (dueNow (c .due) (judged h c))) (h .csrc) (v .csrc) list-due in
       λ i. record {
         status = m .listening .status i;
         filled = v .filled;
         flow = (k .flow ∙ sym flow) i;
-        ip = record { tos = (k .tos ∙ sym (g .tos)) i; ttl = (k .ttl ∙ sym (g .ttl)) i; flags = (k .flags ∙ sym (g .flags)) i; id = hi i };
-        rtp = record { padding = (k .padding ∙ sym (g .padding)) i; extension = (k .extension ∙ sym (g .extension)) i; payload = payload-arrives i; sequence = number-arrives i; timestamp = ht i };
+        ip = record {
+          tos = (k .tos ∙ sym (g .tos)) i;
+          ttl = (k .ttl ∙ sym (g .ttl)) i;
+          flags = (k .flags ∙ sym (g .flags)) i;
+          id =
+              hi i;
+        };
+        rtp = record {
+          padding = (k .padding ∙ sym (g .padding)) i;
+          extension = (k .extension ∙ sym (g .extension)) i;
+          payload =
+              payload-arrives i;
+          sequence = number-arrives i;
+          timestamp = ht i;
+        };
         csrc = hl i;
         carried = (k .carried ∙ ap not (sym (g .blank))) i;
         marker = h .marker;
@@ -194,8 +225,11 @@ module _ (n j : ℕ) (v : DecompressorContext) (h : Header) (c : CompressorConte
   unfolding kindOf
   kind-part z any = rw (le-ltb 0 (c .due .full) (omega arith))
 
-  close-part : c .due .full ≡ 0 → Close n 0 (standing (c .link .sequence) (v .link .generation) (v .filled) h (deltasAfter (c .deltas) (judged h c))) (moved n h c (judged h c))
-  close-part z = close-now n (v .link .generation) (v .filled) h c (deltasAfter (c .deltas) (judged h c)) flow (held .link) refl (λ k. absurd (omega arith))
+  close-part : c .due .full ≡ 0
+      → Close n 0 (standing (c .link .sequence) (v .link .generation) (v .filled) h (deltasAfter (c .deltas) (judged h c)))
+      (moved n h c (judged h c))
+  close-part z = close-now n (v .link .generation) (v .filled) h c (deltasAfter (c .deltas) (judged h c)) flow (held .link) refl
+      (λ k. absurd (omega arith))
 
   part-arrives : n ≤ 14 → c .due .full ≡ 0 → Arrives n v h (sentFrom n h c)
   unfolding sentWith partsOf moved
@@ -234,14 +268,17 @@ full-due : (n : ℕ) (h : Header) (s : CompressorContext) → stepOf n h s .kind
 unfolding stepOf sentWith kindOf
 full-due n h s e =
     let c = reset (begun n h s) in
-    rw (reset-full (begun n h s)) at (ltb-true 0 (c .due .full) (full-kind (ltb 0 (c .due .full)) (anyDue (dueNow (c .due) (judged h c))) e))
+    rw (reset-full (begun n h s)) at (ltb-true 0 (c .due .full)
+    (full-kind (ltb 0 (c .due .full)) (anyDue (dueNow (c .due) (judged h c))) e))
 
 -- a full header arrives, whatever the decompressor has there
-pub related-full : (n : ℕ) (v : DecompressorContext) (h : Header) (s : CompressorContext) → HeaderInRange h → Held s → h .flow ≡ s .flow →
+pub related-full : (n : ℕ) (v : DecompressorContext) (h : Header) (s : CompressorContext) → HeaderInRange h → Held s
+    → h .flow ≡ s .flow →
     stepOf n h s .kind ≡ FullHeader → Arrives n v h (stepOf n h s)
 related-full n v h s fits held flow e = full-step n v h s fits held flow (full-due n h s e)
 
-module _ (n j : ℕ) (v : DecompressorContext) (h : Header) (s : CompressorContext) (fits : HeaderInRange h) (flow : h .flow ≡ s .flow) (r : Related n j v s) where
+module _ (n j : ℕ) (v : DecompressorContext) (h : Header) (s : CompressorContext) (fits : HeaderInRange h)
+    (flow : h .flow ≡ s .flow) (r : Related n j v s) where
   arrives-part : s .status ≡ usage.Live → n ≤ 14 → sameConstants h s ≡ true → s .due .full ≡ 0 → Arrives n v h (stepOf n h s)
   unfolding stepOf
   arrives-part u most e z =
@@ -257,7 +294,8 @@ module _ (n j : ℕ) (v : DecompressorContext) (h : Header) (s : CompressorConte
   none-due : ltb 0 (s .due .full) ≡ false → s .due .full ≡ 0
   none-due d = let k = ltb-false 0 (s .due .full) d in omega arith
 
-  arrives-by : s .status ≡ usage.Live → n ≤ 14 → (same due : Bool) → sameConstants h s ≡ same → ltb 0 (s .due .full) ≡ due → Arrives n v h (stepOf n h s)
+  arrives-by : s .status ≡ usage.Live → n ≤ 14 → (same due : Bool) → sameConstants h s ≡ same → ltb 0 (s .due .full) ≡ due
+      → Arrives n v h (stepOf n h s)
   arrives-by u most false due e d = arrives-changed e
   arrives-by u most true true e d = arrives-due e d
   arrives-by u most true false e d = arrives-part u most e (none-due d)

@@ -11,8 +11,11 @@ use Rattle.packet.specs.Ranges.{HeaderInRange}
 use Rattle.packet.specs.RangesLaws.{range-sound}
 use Rattle.packet.specs.declared.header.Header.{Header}
 use Rattle.context.specs.Field.{counted, nextSequence, nextGeneration}
-use Rattle.context.specs.Compressor.{resetDeltas, withKept, withDue, first, started, sameConstants, begun, skips, startedUnlessDue, requestedBy, requested, reset, adoptsTimestamp, judged, dueAfter, deltasAfter, moved, stepOf}
-use Rattle.context.specs.Sound.{soundLink, usedSound, unusedSound, soundCompressorBy, soundCompressor, emptyCompressor, zeroList}
+use Rattle.context.specs.Compressor.{resetDeltas, withKept, withDue, first, started, sameConstants, begun, skips}
+use Rattle.context.specs.Compressor.{startedUnlessDue, requestedBy, requested, reset, adoptsTimestamp, judged, dueAfter}
+use Rattle.context.specs.Compressor.{deltasAfter, moved, stepOf}
+use Rattle.context.specs.Sound.{soundLink, usedSound, unusedSound, soundCompressorBy, soundCompressor, emptyCompressor}
+use Rattle.context.specs.Sound.{zeroList}
 use Rattle.context.specs.declared.kept.Link.{Link}
 use Rattle.context.specs.declared.compressor.Usage.{Usage}
 use Rattle.context.specs.declared.compressor.Usage.the-variants.{Empty, Live}
@@ -20,7 +23,7 @@ use Rattle.context.specs.declared.compressor.Due.{Due}
 use Rattle.context.specs.declared.compressor.CompressorContext.{CompressorContext}
 use Rattle.context.specs.declared.step.Judged.{Judged}
 use Rattle.context.proofs.Tests.{cond-when, cond-both, adoptsTimestamp-coded}
-use Rattle.context.proofs.Ready.{Kept, started-kept}
+use Rattle.context.proofs.Begun.{Kept, started-kept}
 use Rattle.context.proofs.Lost.{step-context}
 use Rattle.context.proofs.Arrives.{step-status}
 use Rattle.context.proofs.SoundFacts.{hasCode-zero, soundList-made, LinkBounds, soundLink-bounds}
@@ -73,7 +76,17 @@ started-bounds n c b = let d = b .due in record {
   payload = b .payload;
   list = b .list;
   coded = b .coded;
-  due = record { full = omega arith; id = d .id; sequence = d .sequence; timestamp = d .timestamp; payload = d .payload; list = d .list; did = d .did; dts = d .dts };
+  due = record {
+    full = omega arith;
+    id = d .id;
+    sequence = d .sequence;
+    timestamp = d .timestamp;
+    payload = d .payload;
+    list =
+        d .list;
+    did = d .did;
+    dts = d .dts;
+  };
   link = record { sequence = b .link .sequence; generation = omega arith };
 }
 
@@ -83,15 +96,27 @@ begun-bounds n h c b = cond-both (λ (d : CompressorContext). UsedBounds n d) (s
 
 reset-bounds : (n : ℕ) (c : CompressorContext) → UsedBounds n c → UsedBounds n (reset c)
 unfolding reset
-reset-bounds n c b = let d = b .due in cond-both (λ (x : CompressorContext). UsedBounds n x) (eqb (c .due .full) 0) _ (withKept resetDeltas (withDue (c .due .full) 0 0 (c .due)) (c .link) c) b (record {
-  port = b .port;
-  flags = b .flags;
-  payload = b .payload;
-  list = b .list;
-  coded = hasCode-zero;
-  due = record { full = d .full; id = d .id; sequence = d .sequence; timestamp = d .timestamp; payload = d .payload; list = d .list; did = omega arith; dts = omega arith };
-  link = b .link;
-})
+reset-bounds n c b = let d = b .due in
+    cond-both (λ (x : CompressorContext). UsedBounds n x) (eqb (c .due .full) 0) _
+    (withKept resetDeltas (withDue (c .due .full) 0 0 (c .due)) (c .link) c) b (record {
+      port = b .port;
+      flags = b .flags;
+      payload = b .payload;
+      list = b .list;
+      coded = hasCode-zero;
+      due = record {
+        full = d .full;
+        id = d .id;
+        sequence = d .sequence;
+        timestamp = d .timestamp;
+        payload = d .payload;
+        list =
+            d .list;
+        did = omega arith;
+        dts = omega arith;
+      };
+      link = b .link;
+    })
 
 pub ready-bounds : (n : ℕ) (h : Header) (c : CompressorContext) → UsedBounds n c → UsedBounds n (reset (begun n h c))
 ready-bounds n h c b = reset-bounds n (begun n h c) (begun-bounds n h c b)
@@ -108,7 +133,17 @@ first-bounds n h l f even b = record {
   payload = omega (arith, f .rtp .payload);
   list = soundList-made (h .csrc) (range-sound (f .csrc));
   coded = hasCode-zero;
-  due = record { full = omega arith; id = omega arith; sequence = omega arith; timestamp = omega arith; payload = omega arith; list = omega arith; did = omega arith; dts = omega arith };
+  due = record {
+    full = omega arith;
+    id = omega arith;
+    sequence = omega arith;
+    timestamp = omega arith;
+    payload =
+        omega arith;
+    list = omega arith;
+    did = omega arith;
+    dts = omega arith;
+  };
   link = record { sequence = omega arith; generation = b .generation };
 }
 
@@ -138,17 +173,20 @@ first-live n h l = refl
 
 pub sound-first : (n : ℕ) (h : Header) (l : Link) → HeaderInRange h → eqb (h .flow .dport % 2) 0 ≡ true → soundLink l ≡ true
     → soundCompressor n (first n h l) ≡ true
-sound-first n h l f even s = bounds-soundCompressor n (first n h l) (first-live n h l) (first-bounds n h l f even (soundLink-bounds l s))
+sound-first n h l f even s = bounds-soundCompressor n (first n h l) (first-live n h l)
+    (first-bounds n h l f even (soundLink-bounds l s))
 
 pub sound-step : (n : ℕ) (h : Header) (c : CompressorContext) → HeaderInRange h → c .status ≡ Live → soundCompressor n c ≡ true
     → soundCompressor n (stepOf n h c .context) ≡ true
-sound-step n h c f u s = bounds-soundCompressor n (stepOf n h c .context) (step-status n h c ∙ u) (step-bounds n h c f (soundCompressor-bounds n c u s))
+sound-step n h c f u s = bounds-soundCompressor n (stepOf n h c .context) (step-status n h c ∙ u)
+    (step-bounds n h c f (soundCompressor-bounds n c u s))
 
 ---- requested
 
 unless-kept : (n : ℕ) (c : CompressorContext) → Kept (startedUnlessDue n c) c
 unfolding startedUnlessDue
-unless-kept n c = cond-both (λ (d : CompressorContext). Kept d c) (skips c) _ _ (record { status = refl; flow = refl; link = refl }) (started-kept n c)
+unless-kept n c = cond-both (λ (d : CompressorContext). Kept d c) (skips c) _ _ (record { status = refl; flow = refl; link = refl })
+    (started-kept n c)
 
 kept-by : (u : Usage) (n : ℕ) (c : CompressorContext) → Kept (requestedBy u n c) c
 kept-by Empty n c = record { status = refl; flow = refl; link = refl }
@@ -159,10 +197,13 @@ pub requested-kept : (n : ℕ) (c : CompressorContext) → Kept (requested n c) 
 unfolding requested
 requested-kept n c = kept-by (c .status) n c
 
-sound-unless : (n : ℕ) (c : CompressorContext) → c .status ≡ Live → soundCompressor n c ≡ true → soundCompressor n (startedUnlessDue n c) ≡ true
-sound-unless n c u s = bounds-soundCompressor n (startedUnlessDue n c) (unless-kept n c .status ∙ u) (unless-bounds n c (soundCompressor-bounds n c u s))
+sound-unless : (n : ℕ) (c : CompressorContext) → c .status ≡ Live → soundCompressor n c ≡ true
+    → soundCompressor n (startedUnlessDue n c) ≡ true
+sound-unless n c u s = bounds-soundCompressor n (startedUnlessDue n c) (unless-kept n c .status ∙ u)
+    (unless-bounds n c (soundCompressor-bounds n c u s))
 
-requested-by : (u : Usage) (n : ℕ) (c : CompressorContext) → c .status ≡ u → soundCompressor n c ≡ true → soundCompressor n (requestedBy u n c) ≡ true
+requested-by : (u : Usage) (n : ℕ) (c : CompressorContext) → c .status ≡ u → soundCompressor n c ≡ true
+    → soundCompressor n (requestedBy u n c) ≡ true
 requested-by Empty n c e s = s
 requested-by Live n c e s = sound-unless n c e s
 

@@ -12,8 +12,10 @@ use Rattle.packet.specs.declared.csrc.Csrc.{Csrc}
 use Rattle.packet.specs.declared.header.Header.{Header}
 use Rattle.packet.specs.declared.header.RtpHeader.{RtpHeader}
 use Rattle.packet.specs.declared.parts.Parts.{Parts}
-use Rattle.context.specs.Decompressor.{filled, gapVerdict, gapOf, ipAfter, rtpAfter, deltasHeld, advanced, advancedWhole, broke, settled, applied, appliedWhole}
-use Rattle.context.specs.Sound.{soundList, soundLink, filledSound, unfilledSound, soundDecompressorBy, soundDecompressor, emptyDecompressor, zeroList}
+use Rattle.context.specs.Decompressor.{filled, gapVerdict, gapOf, ipAfter, rtpAfter, deltasHeld, advanced, advancedWhole}
+use Rattle.context.specs.Decompressor.{broke, settled, applied, appliedWhole}
+use Rattle.context.specs.Sound.{soundList, soundLink, filledSound, unfilledSound, soundDecompressorBy, soundDecompressor}
+use Rattle.context.specs.Sound.{emptyDecompressor, zeroList}
 use Rattle.context.specs.declared.kept.Link.{Link}
 use Rattle.context.specs.declared.decompressor.Status.{Status}
 use Rattle.context.specs.declared.decompressor.Status.the-variants.{Empty, Live, Broken}
@@ -30,7 +32,8 @@ soundDecompressor-live : (c : DecompressorContext) → c .status ≡ Live → so
 unfolding soundDecompressor soundDecompressorBy
 soundDecompressor-live c e = ap (λ (s : Status). soundDecompressorBy s c) e
 
-live-filled : (c : DecompressorContext) → c .status ≡ Live → soundDecompressor c ≡ true → (c .filled ≡ true) × (filledSound c ≡ true)
+live-filled : (c : DecompressorContext) → c .status ≡ Live → soundDecompressor c ≡ true
+    → (c .filled ≡ true) × (filledSound c ≡ true)
 live-filled c u s = (and-eq-true-iff (c .filled) (filledSound c)) .0 (sym (soundDecompressor-live c u) ∙ s)
 
 pub soundDecompressor-bounds : (c : DecompressorContext) → c .status ≡ Live → soundDecompressor c ≡ true → FilledBounds c
@@ -39,7 +42,8 @@ soundDecompressor-bounds c u s = filledSound-bounds c (live-filled c u s .1)
 filled-and : (f b : Bool) → f ≡ true → b ≡ true → (f && b) ≡ true
 filled-and f b e g = rw (e, g)
 
-bounds-soundDecompressor : (c : DecompressorContext) → c .status ≡ Live → c .filled ≡ true → FilledBounds c → soundDecompressor c ≡ true
+bounds-soundDecompressor : (c : DecompressorContext) → c .status ≡ Live → c .filled ≡ true → FilledBounds c
+    → soundDecompressor c ≡ true
 bounds-soundDecompressor c u f b = soundDecompressor-live c u ∙ filled-and (c .filled) (filledSound c) f (bounds-filledSound c b)
 
 ---- emptyDecompressor, filled
@@ -60,7 +64,8 @@ sound-filled h l f s = bounds-soundDecompressor (filled h l) refl refl (record {
 
 ---- advanced, advancedWhole
 
-pub sound-advanced : (g q : ℕ) (c : DecompressorContext) (p : Parts) → q ≤ 15 → PartsSound p → c .status ≡ Live → soundDecompressor c ≡ true → soundDecompressor (advanced g q c p) ≡ true
+pub sound-advanced : (g q : ℕ) (c : DecompressorContext) (p : Parts) → q ≤ 15 → PartsSound p → c .status ≡ Live
+    → soundDecompressor c ≡ true → soundDecompressor (advanced g q c p) ≡ true
 unfolding advanced ipAfter rtpAfter deltasHeld
 sound-advanced g q c p small a u s =
     let b = soundDecompressor-bounds c u s in
@@ -95,7 +100,8 @@ broke-live : (f a b : Bool) → (f && a) ≡ true → cond f a b ≡ true
 broke-live true a b e = e
 broke-live false a b e = absurd (false≢true e)
 
-broke-by : (s : Status) (c : DecompressorContext) → soundDecompressorBy s c ≡ true → cond (c .filled) (filledSound c) (unfilledSound c) ≡ true
+broke-by : (s : Status) (c : DecompressorContext) → soundDecompressorBy s c ≡ true
+    → cond (c .filled) (filledSound c) (unfilledSound c) ≡ true
 unfolding soundDecompressorBy
 broke-by Empty c e = broke-empty (c .filled) (filledSound c) (unfilledSound c) e
 broke-by Live c e = broke-live (c .filled) (filledSound c) (unfilledSound c) e
@@ -118,9 +124,11 @@ module _ (n q : ℕ) (c : DecompressorContext) (p : Parts) (small : q ≤ 15) (a
   pub sound-applied : soundDecompressor (applied n q c p .context) ≡ true
   unfolding applied
   sound-applied =
-      sound-settled (gapVerdict n (gapOf q c)) (gapOf q c) c (advanced (gapOf q c) q c p) (sound-advanced (gapOf q c) q c p small a live s) s
+      sound-settled (gapVerdict n (gapOf q c)) (gapOf q c) c (advanced (gapOf q c) q c p)
+      (sound-advanced (gapOf q c) q c p small a live s) s
 
   pub sound-appliedWhole : (w : RtpHeader) → HeaderSound w → soundDecompressor (appliedWhole n q c p w .context) ≡ true
   unfolding appliedWhole
   sound-appliedWhole w t =
-      sound-settled (gapVerdict n (gapOf q c)) (gapOf q c) c (advancedWhole (gapOf q c) q c p w) (sound-whole (gapOf q c) q c p w small a t live s) s
+      sound-settled (gapVerdict n (gapOf q c)) (gapOf q c) c (advancedWhole (gapOf q c) q c p w)
+      (sound-whole (gapOf q c) q c p w small a t live s) s

@@ -66,7 +66,8 @@ module _ (w n j : ℕ) (v : Seen) (t : Track) (x : ℕ) (small : t .last < 2 ^ w
   ---- near
 
   -- a packet that is lost
-  pub near-lost : (off take : Bool) → Near w n j v t → suc j ≤ n → offPattern w (t .last) (t .delta) x ≡ off → (take ≡ true → off ≡ true) →
+  pub near-lost : (off take : Bool) → Near w n j v t → suc j ≤ n → offPattern w (t .last) (t .delta) x ≡ off
+      → (take ≡ true → off ≡ true) →
       Near w n (suc j) v (tracked w n off take t x)
   unfolding counted
   near-lost true true r few ho ht = record { delta = λ h. absurd (omega arith); value = λ h. absurd (omega arith) }
@@ -74,8 +75,11 @@ module _ (w n j : ℕ) (v : Seen) (t : Track) (x : ℕ) (small : t .last < 2 ^ w
   near-lost false true r few ho ht = absurd (false≢true (ht refl))
   near-lost false false r few ho ht = record {
     delta = λ h. r .delta (omega arith);
-    value = λ h. let k : (v .delta ≡ t .delta) × (t .last ≡ steps w (v .last) (v .delta) j) = r .value (omega arith) in
-        (k .0, steps-onward w (v .last) j (v .delta) (t .last) x small fits (k .1) (offPattern-false w (t .last) (t .delta) x ho ∙ sym (k .0)));
+    value = λ h. let k : (v .delta ≡ t .delta) × (t .last ≡ steps w (v .last) (v .delta) j) = r .value (omega arith) in (
+      k .0,
+      steps-onward w (v .last) j (v .delta) (t .last) x small fits (k .1)
+          (offPattern-false w (t .last) (t .delta) x ho ∙ sym (k .0)),
+    );
   }
 
   -- the delta that the decompressor holds after a CU or CR
@@ -91,16 +95,20 @@ module _ (w n j : ℕ) (v : Seen) (t : Track) (x : ℕ) (small : t .last < 2 ^ w
       let k : (v .delta ≡ t .delta) × (t .last ≡ steps w (v .last) (v .delta) j) = r .value (omega arith) in
       let one : suc j - 1 ≡ j = omega arith in
       let f : d ≡ v .delta = e ∙ rw ht (sym (k .0)) in
-      rw (one, f) (sym (steps-onward w (v .last) j (v .delta) (t .last) x small fits (k .1) (offPattern-false w (t .last) (t .delta) x ho ∙ sym (k .0))))
+      rw (one, f) (sym (steps-onward w (v .last) j (v .delta) (t .last) x small fits (k .1)
+      (offPattern-false w (t .last) (t .delta) x ho ∙ sym (k .0))))
 
   -- the value that the decompressor comes to by a CU or CR
-  pub value-arrives : (off take : Bool) → Near w n j v t → j ≤ n → offPattern w (t .last) (t .delta) x ≡ off → (take ≡ true → off ≡ true) →
+  pub value-arrives : (off take : Bool) → Near w n j v t → j ≤ n → offPattern w (t .last) (t .delta) x ≡ off
+      → (take ≡ true → off ≡ true) →
       movedOn w (suc j) (v .last) (v .delta) (isDue take (t .deltaDue)) (cond (isDue take (t .deltaDue)) (deltaNow w take t x) 0)
       (isDue off (t .due)) (cond (isDue off (t .due)) x 0) ≡ x
   unfolding movedOn
   value-arrives off take r few ho ht = cond-carried (isDue off (t .due)) x
-      (sum w (steps w (v .last) (v .delta) (suc j - 1)) (cond (isDue take (t .deltaDue)) (cond (isDue take (t .deltaDue)) (deltaNow w take t x) 0) (v .delta)))
-      (λ e. let s = isDue-false off (t .due) e in value-onward take r few (s .1) (not-taken off take ht (s .0)) (ho ∙ s .0) _ (delta-arrives take r few))
+      (sum w (steps w (v .last) (v .delta) (suc j - 1))
+      (cond (isDue take (t .deltaDue)) (cond (isDue take (t .deltaDue)) (deltaNow w take t x) 0) (v .delta)))
+      (λ e. let s = isDue-false off (t .due) e in
+      value-onward take r few (s .1) (not-taken off take ht (s .0)) (ho ∙ s .0) _ (delta-arrives take r few))
 
 -- with nothing lost
 pub near-now : (w n : ℕ) (v : Seen) (t : Track) → v .last ≡ t .last → v .delta ≡ t .delta → Near w n 0 v t

@@ -4,7 +4,7 @@ pub mod Relation
 pub mod Tests
 pub mod FieldLaws
 pub mod Gap
-pub mod Ready
+pub mod Begun
 pub mod Lost
 pub mod Arrives
 pub mod Others

@@ -12,7 +12,8 @@ use Rattle.context.specs.Compressor.{started, skips, startedUnlessDue, r
 use Rattle.context.specs.Decompressor.{filled}
 use Rattle.context.proofs.Relation.{Held}
 use Rattle.context.specs.Sound.{emptyCompressor}
-use Rattle.context.proofs.Relation.{Close, Related, Arrives, idTrack, idSeen, sequenceTrack, sequenceSeen, timestampTrack, timestampSeen}
+use Rattle.context.proofs.Relation.{Close, Related, Arrives, idTrack, idSeen, sequenceTrack, sequenceSeen, timestampTrack}
+use Rattle.context.proofs.Relation.{timestampSeen}
 use Rattle.context.specs.declared.kept.Link.{Link}
 use Rattle.context.specs.declared.compressor.Usage.{Usage}
 use Rattle.context.specs.declared.compressor.Usage.the-variants.{Empty, Live}
@@ -20,7 +21,7 @@ use Rattle.context.specs.declared.compressor.CompressorContext.{Compress
 use Rattle.context.specs.declared.decompressor.DecompressorContext.{DecompressorContext}
 use Rattle.context.proofs.Tests.{cond-both}
 use Rattle.context.proofs.FieldLaws.{near-now}
-use Rattle.context.proofs.Ready.{started-full, started-held}
+use Rattle.context.proofs.Begun.{started-full, started-held}
 use Rattle.context.proofs.Arrives.{filled-exact}
 
 ---- first
@@ -44,7 +45,12 @@ first-full n h l = omega arith
 -- a context's first packet is lost, whatever the decompressor has there
 pub related-first-lost : (n j : ℕ) (v : DecompressorContext) (h : Header) (l : Link) → HeaderInRange h → suc j ≤ n
     → Related n (suc j) v (first n h l)
-related-first-lost n j v h l f few = record { few = few; held = first-held n h l f; close = λ u k. absurd (omega (arith, first-full n h l)) }
+related-first-lost n j v h l f few = record {
+  few = few;
+  held = first-held n h l f;
+  close =
+      λ u k. absurd (omega (arith, first-full n h l));
+}
 
 first-close : (n : ℕ) (h : Header) (l : Link) → l .sequence < 16 → Close n 0 (filled h l) (first n h l)
 unfolding first filled nextSequence
@@ -77,17 +83,25 @@ related-first-arrives n v h l f small = record {
 ---- requested
 
 started-related : (n j : ℕ) (v : DecompressorContext) (s : CompressorContext) → Related n j v s → Related n j v (started n s)
-started-related n j v s r = record { few = r .few; held = started-held n s (r .held); close = λ u k. absurd (omega (arith, started-full n s)) }
+started-related n j v s r = record {
+  few = r .few;
+  held = started-held n s (r .held);
+  close =
+      λ u k. absurd (omega (arith, started-full n s));
+}
 
-related-unless : (n j : ℕ) (v : DecompressorContext) (s : CompressorContext) → Related n j v s → Related n j v (startedUnlessDue n s)
+related-unless : (n j : ℕ) (v : DecompressorContext) (s : CompressorContext) → Related n j v s
+    → Related n j v (startedUnlessDue n s)
 unfolding startedUnlessDue
 related-unless n j v s r = cond-both (λ (c : CompressorContext). Related n j v c) (skips s) _ _ r (started-related n j v s r)
 
-related-by : (u : Usage) (n j : ℕ) (v : DecompressorContext) (s : CompressorContext) → Related n j v s → Related n j v (requestedBy u n s)
+related-by : (u : Usage) (n j : ℕ) (v : DecompressorContext) (s : CompressorContext) → Related n j v s
+    → Related n j v (requestedBy u n s)
 related-by Empty n j v s r = r
 related-by Live n j v s r = related-unless n j v s r
 
-pub related-requested : (n j : ℕ) (v : DecompressorContext) (s : CompressorContext) → Related n j v s → Related n j v (requested n s)
+pub related-requested : (n j : ℕ) (v : DecompressorContext) (s : CompressorContext) → Related n j v s
+    → Related n j v (requested n s)
 unfolding requested
 related-requested n j v s r = related-by (s .status) n j v s r
 
@@ -101,6 +115,14 @@ pub related-empty : (n : ℕ) (v : DecompressorContext) → Related n 0 v emptyC
 unfolding emptyCompressor
 related-empty n v = record {
   few = omega arith;
-  held = record { id = omega arith; sequence = omega arith; timestamp = omega arith; did = omega arith; dts = omega arith; link = omega arith };
+  held = record {
+    id = omega arith;
+    sequence = omega arith;
+    timestamp = omega arith;
+    did = omega arith;
+    dts = omega arith;
+    link =
+        omega arith;
+  };
   close = λ u k. absurd (empty-live u);
 }

@@ -13,7 +13,8 @@ use Rattle.packet.specs.RangesLaws.{range-noList}
 use Rattle.packet.specs.declared.csrc.Csrc.{Csrc}
 use Rattle.packet.specs.declared.header.Header.{Header}
 use Rattle.packet.specs.declared.parts.Parts.{Parts}
-use Rattle.context.specs.Compressor.{begun, reset, adoptsTimestamp, judged, dueNow, anyDue, kindOf, listIf, partsOf, deltasAfter, moved, sentWith, sentFrom, stepOf}
+use Rattle.context.specs.Compressor.{begun, reset, adoptsTimestamp, judged, dueNow, anyDue, kindOf, listIf, partsOf}
+use Rattle.context.specs.Compressor.{deltasAfter, moved, sentWith, sentFrom, stepOf}
 use Rattle.context.proofs.Relation.{Held}
 use Rattle.context.specs.Sound.{soundLink, soundCompressor}
 use Rattle.context.specs.declared.compressor.Usage.the-variants.{Live}
@@ -21,7 +22,7 @@ use Rattle.context.specs.declared.compressor.CompressorContext.{Compress
 use Rattle.context.specs.declared.step.DueNow.{DueNow}
 use Rattle.context.specs.declared.step.Kind.the-variants.{FullHeader, CompressedUdp, CompressedRtp}
 use Rattle.context.proofs.Tests.{cond-when, cond-both, adoptsTimestamp-coded, NoneDue, anyDue-false}
-use Rattle.context.proofs.Ready.{ready-held}
+use Rattle.context.proofs.Begun.{ready-held}
 use Rattle.context.proofs.Lost.{moved-held}
 use Rattle.context.proofs.Arrives.{checksum-back}
 use Rattle.context.proofs.SoundFacts.{UsedBounds, hasCode-zero, bounds-soundLink}
@@ -62,7 +63,8 @@ module _ (n : ℕ) (h : Header) (c : CompressorContext) (fits : HeaderInRange h)
         dsn = sendable-if 16 false 0 (omega arith) (omega arith);
         dts = sendable-if 32 (d .dts) (moved n h c (judged h c) .deltas .timestamp) (omega arith) (k .dts);
         coded = λ e. cond-both (λ (x : ℕ). hasCode 32 x ≡ true) (d .dts) _ 0
-            (cond-when (λ (x : ℕ). hasCode 32 x ≡ true) (adoptsTimestamp h c) _ _ (adoptsTimestamp-coded h c) (bounds .coded)) hasCode-zero;
+            (cond-when (λ (x : ℕ). hasCode 32 x ≡ true) (adoptsTimestamp h c) _ _ (adoptsTimestamp-coded h c) (bounds .coded))
+            hasCode-zero;
         list = list-range (anyDue d) (h .csrc) (fits .csrc);
       }
 
@@ -105,7 +107,8 @@ module _ (n : ℕ) (h : Header) (s : CompressorContext) where
   pub parts-step : HeaderInRange h → Held s → s .status ≡ Live → soundCompressor n s ≡ true
       → PartsFit (not (stepOf n h s .context .blank)) (stepOf n h s .parts)
   unfolding stepOf
-  parts-step f k u b = sent-fits n h (reset (begun n h s)) f (ready-held n h s k) (ready-bounds n h s (soundCompressor-bounds n s u b))
+  parts-step f k u b = sent-fits n h (reset (begun n h s)) f (ready-held n h s k)
+      (ready-bounds n h s (soundCompressor-bounds n s u b))
 
   -- the link sequence and the generation have their bits
   pub link-step : s .status ≡ Live → soundCompressor n s ≡ true → soundLink (stepOf n h s .link) ≡ true
@@ -123,7 +126,8 @@ module _ (n : ℕ) (h : Header) (s : CompressorContext) where
   -- a CU has the list, and no difference of the sequence
   pub cu-listed : stepOf n h s .kind ≡ CompressedUdp → stepOf n h s .parts .listed ≡ true
   unfolding stepOf sentWith partsOf kindOf
-  cu-listed e = kind-udp (ltb 0 (reset (begun n h s) .due .full)) (anyDue (dueNow (reset (begun n h s) .due) (judged h (reset (begun n h s))))) e
+  cu-listed e = kind-udp (ltb 0 (reset (begun n h s) .due .full))
+      (anyDue (dueNow (reset (begun n h s) .due) (judged h (reset (begun n h s))))) e
 
   pub step-dsn : stepOf n h s .parts .dsn .sent ≡ false
   unfolding stepOf sentWith partsOf
@@ -136,4 +140,14 @@ module _ (n : ℕ) (h : Header) (s : CompressorContext) where
       let now = dueNow (reset (begun n h s) .due) (judged h (reset (begun n h s))) in
       let none : anyDue now ≡ false = kind-rtp (ltb 0 (reset (begun n h s) .due .full)) (anyDue now) e in
       let d : NoneDue now = anyDue-false now none in
-      record { id = d .id; sequence = d .sequence; timestamp = d .timestamp; payload = d .payload; did = d .did; dsn = refl; dts = d .dts; listed = none }
+      record {
+        id = d .id;
+        sequence = d .sequence;
+        timestamp = d .timestamp;
+        payload = d .payload;
+        did = d .did;
+        dsn = refl;
+        dts =
+            d .dts;
+        listed = none;
+      }

@@ -40,7 +40,13 @@ abbrev pub sequenceTrack : CompressorContext → Track
 sequenceTrack s = record { last = s .rtp .sequence; delta = 1; deltaDue = 0; due = s .due .sequence }
 
 abbrev pub timestampTrack : CompressorContext → Track
-timestampTrack s = record { last = s .rtp .timestamp; delta = s .deltas .timestamp; deltaDue = s .due .dts; due = s .due .timestamp }
+timestampTrack s = record {
+  last = s .rtp .timestamp;
+  delta = s .deltas .timestamp;
+  deltaDue = s .due .dts;
+  due =
+      s .due .timestamp;
+}
 
 abbrev pub idSeen : DecompressorContext → Seen
 idSeen v = record { last = v .ip .id; delta = v .deltas .id }

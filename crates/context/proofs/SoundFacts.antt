@@ -67,7 +67,8 @@ pub record DueBounds (n : ℕ) (d : Due) : Type 0 where
 pub soundDue-bounds : (n : ℕ) (d : Due) → soundDue n d ≡ true → DueBounds n d
 unfolding soundDue
 soundDue-bounds n d e =
-    let a = all-of-eight (leb (d .full) (n + 1)) (leb (d .id) n) (leb (d .sequence) n) (leb (d .timestamp) n) (leb (d .payload) n) (leb (d .list) n) (leb (d .did) n) (leb (d .dts) n) e in
+    let a = all-of-eight (leb (d .full) (n + 1)) (leb (d .id) n) (leb (d .sequence) n) (leb (d .timestamp) n) (leb (d .payload) n)
+    (leb (d .list) n) (leb (d .did) n) (leb (d .dts) n) e in
     record {
       full = leb-true (d .full) (n + 1) (a .0);
       id = leb-true (d .id) n (a .1);
@@ -106,7 +107,8 @@ pub record UsedBounds (n : ℕ) (c : CompressorContext) : Type 0 where
 pub usedSound-bounds : (n : ℕ) (c : CompressorContext) → usedSound n c ≡ true → UsedBounds n c
 unfolding usedSound
 usedSound-bounds n c e =
-    let a = all-of-eight true (eqb (c .flow .dport % 2) 0) (leb (c .ip .flags) 3) (leb (c .rtp .payload) 127) (soundList (c .csrc)) (hasCode 32 (c .deltas .timestamp)) (soundDue n (c .due)) (soundLink (c .link)) e in
+    let a = all-of-eight true (eqb (c .flow .dport % 2) 0) (leb (c .ip .flags) 3) (leb (c .rtp .payload) 127) (soundList (c .csrc))
+    (hasCode 32 (c .deltas .timestamp)) (soundDue n (c .due)) (soundLink (c .link)) e in
     record {
       port = a .1;
       flags = leb-true (c .ip .flags) 3 (a .2);
@@ -141,7 +143,8 @@ pub record FilledBounds (c : DecompressorContext) : Type 0 where
 pub filledSound-bounds : (c : DecompressorContext) → filledSound c ≡ true → FilledBounds c
 unfolding filledSound
 filledSound-bounds c e =
-    let a = all-of-eight true true true (leb (c .ip .flags) 3) (leb (c .rtp .payload) 127) (soundList (c .csrc)) (hasCode 32 (c .deltas .timestamp)) (soundLink (c .link)) e in
+    let a = all-of-eight true true true (leb (c .ip .flags) 3) (leb (c .rtp .payload) 127) (soundList (c .csrc))
+    (hasCode 32 (c .deltas .timestamp)) (soundLink (c .link)) e in
     record {
       flags = leb-true (c .ip .flags) 3 (a .3);
       payload = leb-true (c .rtp .payload) 127 (a .4);

@@ -11,7 +11,8 @@ use Rattle.codes.specs.Difference.{hasCode}
 use Rattle.packet.proofs.Chain.{all-of-eight}
 use Rattle.packet.specs.declared.header.Header.{Header}
 use Rattle.context.specs.Field.{offPattern, isDue}
-use Rattle.context.specs.Compressor.{sameBit, sameConstants, mayAdopt, differences, repeatsId, repeatsTimestamp, adoptsId, adoptsTimestamp, anyDue}
+use Rattle.context.specs.Compressor.{sameBit, sameConstants, mayAdopt, differences, repeatsId, repeatsTimestamp, adoptsId}
+use Rattle.context.specs.Compressor.{adoptsTimestamp, anyDue}
 use Rattle.context.specs.declared.compressor.CompressorContext.{CompressorContext}
 use Rattle.context.specs.declared.step.DueNow.{DueNow}
 
@@ -52,7 +53,8 @@ module _ (h : Header) (c : CompressorContext) where
   same-constants e =
       let a = all-of-eight true true
       (eqb (h .ip .tos) (c .ip .tos)) (eqb (h .ip .ttl) (c .ip .ttl)) (eqb (h .ip .flags) (c .ip .flags))
-      (sameBit (h .rtp .padding) (c .rtp .padding)) (sameBit (h .rtp .extension) (c .rtp .extension)) (sameBit (eqb (h .checksum) 0) (c .blank)) e in
+      (sameBit (h .rtp .padding) (c .rtp .padding)) (sameBit (h .rtp .extension) (c .rtp .extension))
+      (sameBit (eqb (h .checksum) 0) (c .blank)) e in
       record {
         tos = eqb-true _ _ (a .2);
         ttl = eqb-true _ _ (a .3);
@@ -72,7 +74,8 @@ module _ (h : Header) (c : CompressorContext) where
       (and-eq-true-iff (mayAdopt c) o) .0 ((and-eq-true-iff (mayAdopt c && o) (repeatsId h c)) .0 e .0) .1
 
   timestamp-adopted : adoptsTimestamp h c ≡ true →
-      (offPattern 32 (c .rtp .timestamp) (c .deltas .timestamp) (h .rtp .timestamp) ≡ true) × (hasCode 32 (differences h c .timestamp) ≡ true)
+      (offPattern 32 (c .rtp .timestamp) (c .deltas .timestamp) (h .rtp .timestamp) ≡ true)
+      × (hasCode 32 (differences h c .timestamp) ≡ true)
   unfolding adoptsTimestamp
   timestamp-adopted e =
       let o = offPattern 32 (c .rtp .timestamp) (c .deltas .timestamp) (h .rtp .timestamp) in
@@ -81,7 +84,8 @@ module _ (h : Header) (c : CompressorContext) where
       let p = (and-eq-true-iff (mayAdopt c && o) (x && y)) .0 e in
       ((and-eq-true-iff (mayAdopt c) o) .0 (p .0) .1, (and-eq-true-iff x y) .0 (p .1) .1)
 
-  pub adoptsTimestamp-off : adoptsTimestamp h c ≡ true → offPattern 32 (c .rtp .timestamp) (c .deltas .timestamp) (h .rtp .timestamp) ≡ true
+  pub adoptsTimestamp-off : adoptsTimestamp h c ≡ true
+      → offPattern 32 (c .rtp .timestamp) (c .deltas .timestamp) (h .rtp .timestamp) ≡ true
   adoptsTimestamp-off e = timestamp-adopted e .0
 
   -- and only where it has a code

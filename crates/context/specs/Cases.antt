@@ -10,9 +10,12 @@ use Rattle.packet.specs.Sent.{sentIf8, sentIf16, sentIf32}
 use Rattle.packet.specs.declared.header.Header.{Header}
 use Rattle.packet.specs.declared.parts.Parts.{Parts}
 use Rattle.context.specs.Field.{nextSequence, nextGeneration, offPattern, counted, isDue, gap, movedOn}
-use Rattle.context.specs.Compressor.{first, started, sameConstants, begun, startedUnlessDue, requested, reset, adoptsId, adoptsTimestamp, judged, dueNow, anyDue, kindOf, listIf, partsOf, dueAfter, deltasAfter, moved, sentWith, stepOf}
+use Rattle.context.specs.Compressor.{first, started, sameConstants, begun, startedUnlessDue, requested, reset, adoptsId}
+use Rattle.context.specs.Compressor.{adoptsTimestamp, judged, dueNow, anyDue, kindOf, listIf, partsOf, dueAfter, deltasAfter}
+use Rattle.context.specs.Compressor.{moved, sentWith, stepOf}
 use Rattle.packet.specs.Refusal.{verdictNumber}
-use Rattle.context.specs.Decompressor.{filled, gapVerdict, ipAfter, rtpAfter, deltasHeld, advanced, broke, settled, applied, rebuilt}
+use Rattle.context.specs.Decompressor.{filled, gapVerdict, ipAfter, rtpAfter, deltasHeld, advanced, broke, settled, applied}
+use Rattle.context.specs.Decompressor.{rebuilt}
 use Rattle.context.specs.Sound.{emptyCompressor}
 use Rattle.context.specs.declared.step.Kind.the-variants.{FullHeader, CompressedUdp, CompressedRtp}
 use Rattle.context.specs.declared.compressor.CompressorContext.{CompressorContext}
@@ -140,7 +143,9 @@ pub record Rebuilding : Type 0 where
   }
 
 pub compressing : Compressing
-unfolding difference hasCode sameList nextSequence nextGeneration offPattern counted isDue first started sameConstants begun startedUnlessDue requested reset adoptsId adoptsTimestamp judged dueNow anyDue kindOf listIf partsOf dueAfter deltasAfter moved sentWith stepOf emptyCompressor
+unfolding difference hasCode sameList nextSequence nextGeneration offPattern counted isDue first started sameConstants begun
+    startedUnlessDue requested reset adoptsId adoptsTimestamp judged dueNow anyDue kindOf listIf partsOf dueAfter deltasAfter moved
+    sentWith stepOf emptyCompressor
 compressing = record {
   rising-kind = refl;
   rising-sequence = refl;

@@ -67,7 +67,8 @@ rtpAfter g c p = record {
   extension = c .rtp .extension;
   payload = cond (p .payload .sent) (p .payload .value) (c .rtp .payload);
   sequence = movedOn 16 g (c .rtp .sequence) 1 (p .dsn .sent) (p .dsn .value) (p .sequence .sent) (p .sequence .value);
-  timestamp = movedOn 32 g (c .rtp .timestamp) (c .deltas .timestamp) (p .dts .sent) (p .dts .value) (p .timestamp .sent) (p .timestamp .value);
+  timestamp = movedOn 32 g (c .rtp .timestamp) (c .deltas .timestamp) (p .dts .sent) (p .dts .value) (p .timestamp .sent)
+      (p .timestamp .value);
 }
 
 -- rule 7.5

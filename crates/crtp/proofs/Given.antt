@@ -33,7 +33,7 @@ use Rattle.compressor.specs.Answer as sending
 use Rattle.compressor.specs.Table as compressing
 use Rattle.compressor.specs.Send.{sendOf}
 use Rattle.compressor.specs.SendLaws.{On, stepAt, tableAt, kindAt, bytesAt, Goes, goes-refused, goes-plain, goes-on, sendOf-goes}
-use Rattle.compressor.specs.ReadyLaws.{sound-most, ready-on}
+use Rattle.compressor.specs.CanSendLaws.{sound-most, canSend-on}
 use Rattle.compressor.specs.SoundLaws.{sound-context}
 use Rattle.decompressor.proofs.ReceiveSound.{named}
 use Rattle.calls.specs.Calls as calls
@@ -100,7 +100,7 @@ frame-named CompressedRtp bytes = refl
 module _ (s : Settings) (t : compressor.Table) (fit : SenderFit s t) (p : Bytes) where
   module _ (i : ℕ) (on : On t (p .list) i) where
     pub writable : Writable (headerOf (p .list)) (stepAt t (p .list) i)
-    writable = ready-on t (p .list) i (fit .size) (p .small) on .writable
+    writable = canSend-on t (p .list) i (fit .size) (p .small) on .writable
 
     pub carried : Carried (stepAt t (p .list) i)
     carried =

@@ -19,7 +19,7 @@ use Rattle.outgoing.specs.StepLaws.{lost-stepOn, arrives-stepOn, full-stepOn}
 use Rattle.compressor.specs.declared.table.Table as compressor
 use Rattle.compressor.specs.Table as compressing
 use Rattle.compressor.specs.SendLaws.{On, stepAt, tableAt, kindAt, bytesAt}
-use Rattle.compressor.specs.ReadyLaws.{sound-repeats}
+use Rattle.compressor.specs.CanSendLaws.{sound-repeats}
 use Rattle.compressor.specs.SoundLaws.{contextAt-same, contextAt-other}
 use Rattle.decompressor.specs.declared.table.Table as decompressor
 use Rattle.decompressor.specs.Answer as receiving

@@ -47,8 +47,10 @@ use Rattle.decompressor.specs.declared.table.Table.{Table}
 use Rattle.decompressor.specs.Answer.{Result, accepted, refused, delivered}
 use Rattle.decompressor.specs.Table.{noContext, soundOf, contextAt, withContext, Sound}
 use Rattle.decompressor.specs.TableLaws.{soundOf-true, sound-contextAt, sound-withContext}
-use Rattle.decompressor.specs.Receive.{packetOf, receivePlain, fullTable, receiveFullBy, receiveFull, rebuildTo, settleBy, settle, settleRead}
-use Rattle.decompressor.specs.Receive.{receiveParts, receiveWhole, receiveOld, receiveUdp, receiveRtp, receiveOn, receiveCompressed, receiveKind}
+use Rattle.decompressor.specs.Receive.{packetOf, receivePlain, fullTable, receiveFullBy, receiveFull, rebuildTo, settleBy}
+use Rattle.decompressor.specs.Receive.{settle, settleRead}
+use Rattle.decompressor.specs.Receive.{receiveParts, receiveWhole, receiveOld, receiveUdp, receiveRtp, receiveOn}
+use Rattle.decompressor.specs.Receive.{receiveCompressed, receiveKind}
 use Rattle.decompressor.specs.Receive.{receiveBy, receiveOf}
 
 -- the context number that a link packet carries; a plain one carries none
@@ -84,7 +86,8 @@ module _ {t : Table} {i : ℕ} where
 -- refused whatever the output; or a result that is delivered where the output has room for it
 pub data Way (t : Table) (i : ℕ) (f : List ℕ → Result) : Type 0 where
   refuses : (after : Table) (n : ℕ) → 1 ≤ n → Leaves t i after → ((output : List ℕ) → f output ≡ refused after n output) → Way t i f
-  gives : (after : Table) (bytes : List ℕ) → Leaves t i after → ((output : List ℕ) → f output ≡ delivered t after bytes output) → Way t i f
+  gives : (after : Table) (bytes : List ℕ) → Leaves t i after → ((output : List ℕ) → f output ≡ delivered t after bytes output)
+      → Way t i f
 
 -- what is delivered to one output is refused where another is too short for it
 delivered-room : (b : Bool) (t after : Table) (bytes room output : List ℕ)
@@ -95,7 +98,8 @@ delivered-room true t after bytes room output z h = absurd (omega arith)
 delivered-room false t after bytes room output z h = rw (lt-ltb (length output) (length bytes) h)
 
 module _ {t : Table} {i : ℕ} where
-  way-if : (b : Bool) (f g : List ℕ → Result) → (b ≡ true → Way t i f) → Way t i g → Way t i (λ output. cond b (f output) (g output))
+  way-if : (b : Bool) (f g : List ℕ → Result) → (b ≡ true → Way t i f) → Way t i g
+      → Way t i (λ output. cond b (f output) (g output))
   way-if true f g w v = w refl
   way-if false f g w v = v
 
@@ -107,7 +111,8 @@ module _ {t : Table} {i : ℕ} where
   pub way-leaves : (f : List ℕ → Result) → Way t i f → (output : List ℕ) → Leaves t i (f output .table)
   way-leaves f (refuses after n h l e) output = subst (λ (r : Result). Leaves t i (r .table)) (sym (e output)) l
   way-leaves f (gives after bytes l e) output =
-      subst (λ (r : Result). Leaves t i (r .table)) (sym (e output)) (delivered-leaves (ltb (length output) (length bytes)) after bytes output l)
+      subst (λ (r : Result). Leaves t i (r .table)) (sym (e output))
+      (delivered-leaves (ltb (length output) (length bytes)) after bytes output l)
 
   pub way-room : (f : List ℕ → Result) → Way t i f → (room output : List ℕ)
       → f room .number ≡ 0 → length output < f room .length → f output ≡ refused t 11 output
@@ -131,8 +136,10 @@ module _ (t : Table) (s : List ℕ) (a : AllBytes s) where
       (fhOf-range s a)
       (bounds-soundLink _ (record { sequence = omega (arith, fhOf-link s); generation = omega (arith, fhOf-generation s) })))
 
-  full-way : (v : Verdict) → fhJudged (t .settings .contexts) s ≡ v → Way t (fhOf s .context) (λ output. receiveFullBy v t (fhOf s) s output)
-  full-way Accepted e = gives (fullTable t (fhOf s)) (packetOf (fhOf s .header) (drop (fhOf s .start) s)) (full-leaves e) (λ output. refl)
+  full-way : (v : Verdict) → fhJudged (t .settings .contexts) s ≡ v
+      → Way t (fhOf s .context) (λ output. receiveFullBy v t (fhOf s) s output)
+  full-way Accepted e = gives (fullTable t (fhOf s)) (packetOf (fhOf s .header) (drop (fhOf s .start) s)) (full-leaves e)
+      (λ output. refl)
   full-way (Refused r) e = refuses t (numberOf r) (numberOf-least r) same (λ output. refl)
 
   receiveFull-way : Way t (byteAt s 3) (λ output. receiveFull t s output)
@@ -142,7 +149,8 @@ module _ (t : Table) (s : List ℕ) (a : AllBytes s) where
 ---- COMPRESSED_UDP and COMPRESSED_RTP
 
 module _ (t : Table) (i : ℕ) (sound : Sound t) (among : i < t .settings .contexts) where
-  rebuildTo-way : (c : DecompressorContext) (sent : ℕ) (rest : List ℕ) → soundDecompressor c ≡ true → Way t i (λ output. rebuildTo t i c sent rest output)
+  rebuildTo-way : (c : DecompressorContext) (sent : ℕ) (rest : List ℕ) → soundDecompressor c ≡ true
+      → Way t i (λ output. rebuildTo t i c sent rest output)
   rebuildTo-way c sent rest e =
       way-if (ltb 1500 (headerSize (rebuilt c sent) + length rest))
       (λ output. refused t 10 output)
@@ -153,7 +161,8 @@ module _ (t : Table) (i : ℕ) (sound : Sound t) (among : i < t .settings .conte
   settleBy-way : (o : Verdict) (c : DecompressorContext) (sent : ℕ) (rest : List ℕ) → soundDecompressor c ≡ true
       → Way t i (λ output. settleBy o t i c sent rest output)
   settleBy-way Accepted c sent rest e = rebuildTo-way c sent rest e
-  settleBy-way (Refused r) c sent rest e = refuses (withContext t i c) (numberOf r) (numberOf-least r) (one c among e) (λ output. refl)
+  settleBy-way (Refused r) c sent rest e = refuses (withContext t i c) (numberOf r) (numberOf-least r) (one c among e)
+      (λ output. refl)
 
   -- o: what was found of the reading
   settleRead-way : (o : Verdict) (at : ℕ) (b : Applied) (sent : ℕ) (s : List ℕ) → soundDecompressor (b .context) ≡ true
@@ -163,9 +172,11 @@ module _ (t : Table) (i : ℕ) (sound : Sound t) (among : i < t .settings .conte
 
   -- on a live context
   module _ (live : contextAt t i .status ≡ Live) where
-    receiveParts-way : (r : ReadParts) (q : ℕ) (s : List ℕ) → q < 16 → PartsSound (r .parts) → Way t i (λ output. receiveParts r t i q s output)
+    receiveParts-way : (r : ReadParts) (q : ℕ) (s : List ℕ) → q < 16 → PartsSound (r .parts)
+        → Way t i (λ output. receiveParts r t i q s output)
     receiveParts-way r q s small p =
-        settleRead-way (r .place .verdict) (r .place .cursor .at) (applied (t .settings .repeats) q (contextAt t i) (r .parts)) (r .parts .checksum) s
+        settleRead-way (r .place .verdict) (r .place .cursor .at) (applied (t .settings .repeats) q (contextAt t i) (r .parts))
+        (r .parts .checksum) s
         (sound-applied (t .settings .repeats) q (contextAt t i) (r .parts) (omega arith) p live (sound-contextAt t i sound))
 
     receiveWhole-way : (r : ReadWhole) (q : ℕ) (s : List ℕ) → q < 16 → PartsSound (r .parts) → HeaderSound (r .header)
@@ -176,7 +187,8 @@ module _ (t : Table) (i : ℕ) (sound : Sound t) (among : i < t .settings .conte
         (sound-appliedWhole (t .settings .repeats) q (contextAt t i) (r .parts) (omega arith) p live
         (sound-contextAt t i sound) (r .header) w)
 
-    receiveOld-way : (old : OldForm) (h : Head) (s : List ℕ) → h .flags .low < 16 → Way t i (λ output. receiveOld old t i h s output)
+    receiveOld-way : (old : OldForm) (h : Head) (s : List ℕ) → h .flags .low < 16
+        → Way t i (λ output. receiveOld old t i h s output)
     unfolding receiveOld
     receiveOld-way Taken h s small =
         receiveWhole-way (wholeOf s (h .place) (h .flags) (checksumRead (contextAt t i))) (h .flags .low) s small
@@ -191,13 +203,15 @@ module _ (old : OldForm) (t : Table) (sound : Sound t) where
           way-if (cuFlagsOf (h .flags) .values)
           (λ output. receiveParts (cuOf s (h .place) (h .flags) (checksumRead (contextAt t i))) t i (h .flags .low) s output)
           (λ output. receiveOld old t i h s output)
-          (λ e. receiveParts-way t i sound among live (cuOf s (h .place) (h .flags) (checksumRead (contextAt t i))) (h .flags .low) s small
+          (λ e. receiveParts-way t i sound among live (cuOf s (h .place) (h .flags) (checksumRead (contextAt t i)))
+          (h .flags .low) s small
           (links.cuOf-sound s (h .place) (h .flags) (checksumRead (contextAt t i))))
           (receiveOld-way t i sound among live old h s small)
 
       receiveRtp-way : Way t i (λ output. receiveRtp t i h s output)
       receiveRtp-way =
-          receiveParts-way t i sound among live (crOf s (h .place) (h .flags) (checksumRead (contextAt t i))) (h .flags .low) s small
+          receiveParts-way t i sound among live (crOf s (h .place) (h .flags) (checksumRead (contextAt t i)))
+          (h .flags .low) s small
           (links.crOf-sound s (h .place) (h .flags) (checksumRead (contextAt t i)))
 
     broken-way : Way t i (λ output. refused (withContext t i (broke (contextAt t i))) 8 output)
@@ -209,19 +223,22 @@ module _ (old : OldForm) (t : Table) (sound : Sound t) where
     receiveOn-way Empty kind e = broken-way
     receiveOn-way Broken kind e = broken-way
     receiveOn-way Live kind e =
-        way-if (eqb kind 2) (λ output. receiveUdp old t i h s output) (λ output. receiveRtp t i h s output) (λ b. receiveUdp-way e) (receiveRtp-way e)
+        way-if (eqb kind 2) (λ output. receiveUdp old t i h s output) (λ output. receiveRtp t i h s output) (λ b. receiveUdp-way e)
+        (receiveRtp-way e)
 
   module _ (s : List ℕ) where
     receiveCompressed-way : (kind : ℕ) → Way t (contextOf s) (λ output. receiveCompressed old kind t s output)
     unfolding receiveCompressed
     receiveCompressed-way kind =
         way-if (ltb (contextOf s) (t .settings .contexts))
-        (λ output. cond (isAccepted (headOf s .place .verdict)) (receiveOn old (contextAt t (contextOf s) .status) kind t (contextOf s) (headOf s) s output) (refused t 4 output))
+        (λ output. cond (isAccepted (headOf s .place .verdict))
+        (receiveOn old (contextAt t (contextOf s) .status) kind t (contextOf s) (headOf s) s output) (refused t 4 output))
         (λ output. refused t 6 output)
         (λ e. way-if (isAccepted (headOf s .place .verdict))
         (λ output. receiveOn old (contextAt t (contextOf s) .status) kind t (contextOf s) (headOf s) s output)
         (λ output. refused t 4 output)
-        (λ g. receiveOn-way (contextOf s) (ltb-true (contextOf s) (t .settings .contexts) e) (headOf s) s (headOf-low s) (contextAt t (contextOf s) .status) kind refl)
+        (λ g. receiveOn-way (contextOf s) (ltb-true (contextOf s) (t .settings .contexts) e) (headOf s) s (headOf-low s)
+        (contextAt t (contextOf s) .status) kind refl)
         (refuses t 4 (omega arith) same (λ output. refl)))
         (refuses t 6 (omega arith) same (λ output. refl))
 
@@ -232,7 +249,9 @@ module _ (old : OldForm) (t : Table) (sound : Sound t) where
     ---- By type
 
     module _ (a : AllBytes s) where
-      fullOr-way : (b : Bool) (kind : ℕ) → Way t (cond b (byteAt s 3) (byteAt s 0)) (λ output. cond b (receiveFull t s output) (receiveCompressed old kind t s output))
+      fullOr-way : (b : Bool) (kind : ℕ)
+          → Way t (cond b (byteAt s 3) (byteAt s 0))
+          (λ output. cond b (receiveFull t s output) (receiveCompressed old kind t s output))
       fullOr-way true kind = receiveFull-way t s a
       fullOr-way false kind = first-way kind
 
@@ -249,7 +268,8 @@ module _ (old : OldForm) (t : Table) (sound : Sound t) where
       unfolding receiveBy
       receiveBy-way kind =
           way-if (soundOf t)
-          (λ output. cond (leb kind 3) (cond (lengthAllowed (length s)) (receiveKind old kind t s output) (refused t 2 output)) (refused t 3 output))
+          (λ output. cond (leb kind 3) (cond (lengthAllowed (length s)) (receiveKind old kind t s output) (refused t 2 output))
+          (refused t 3 output))
           (λ output. refused t 1 output)
           (λ e. way-if (leb kind 3)
           (λ output. cond (lengthAllowed (length s)) (receiveKind old kind t s output) (refused t 2 output))

@@ -29,7 +29,8 @@ refused t n output = record { number = n; length = 0; output = output; table = t
 
 -- 11 where the output is shorter than the exact result
 abbrev pub delivered : (before after : Table) → (bytes output : List ℕ) → Result
-delivered before after bytes output = cond (ltb (length output) (length bytes)) (refused before 11 output) (accepted after bytes output)
+delivered before after bytes output = cond (ltb (length output) (length bytes)) (refused before 11 output)
+    (accepted after bytes output)
 
 ---- number and values of each outcome
 

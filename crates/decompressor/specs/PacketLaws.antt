@@ -32,8 +32,10 @@ pub length-printed : (h : Header) (total : ℕ) → h .csrc .count ≤ length (h
 unfolding headerBytes ipFront ipBack udpBytes rtpFixed
 length-printed h total c = omega (arith, length-listBytes (h .csrc) c)
 
-pub length-packetOf : (h : Header) (rest : List ℕ) → h .csrc .count ≤ length (h .csrc .words) → length (packetOf h rest) ≡ headerSize h + length rest
-length-packetOf h rest c = length-append (printed h (headerSize h + length rest)) rest ∙ rw (length-printed h (headerSize h + length rest) c)
+pub length-packetOf : (h : Header) (rest : List ℕ) → h .csrc .count ≤ length (h .csrc .words)
+    → length (packetOf h rest) ≡ headerSize h + length rest
+length-packetOf h rest c = length-append (printed h (headerSize h + length rest)) rest
+    ∙ rw (length-printed h (headerSize h + length rest) c)
 
 -- the header and the rest of a compressible packet make up the packet
 module _ {p : List ℕ} (a : AllBytes p) (e : compressible p ≡ true) where
@@ -59,12 +61,14 @@ module _ (k : ℕ) (s : List ℕ) (a : AllBytes s) (e : fhJudged k s ≡ verdict
 
 module _ (before after : Table) (bytes output : List ℕ) where
   -- as a call says it
-  pub said-noRoom : length output < length bytes → said (record { outcome = Refused NoRoom; table = before }) output ≡ delivered before after bytes output
+  pub said-noRoom : length output < length bytes
+      → said (record { outcome = Refused NoRoom; table = before }) output ≡ delivered before after bytes output
   said-noRoom h = rw (lt-ltb (length output) (length bytes) h)
 
   pub said-accepted : (m : ℕ) (out : List ℕ) → length bytes ≤ length output → m ≡ length bytes → out ≡ fronted output bytes
       → said (record { outcome = Accepted m; table = after }) out ≡ delivered before after bytes output
-  said-accepted m out h e w = rw (le-ltb (length output) (length bytes) h) (λ j. record { number = 0; length = e j; output = w j; table = after })
+  said-accepted m out h e w = rw (le-ltb (length output) (length bytes) h)
+      (λ j. record { number = 0; length = e j; output = w j; table = after })
 
 -- where there is room, the output begins with the packet
 module _ (before after : Table) (bytes output : List ℕ) (room : length bytes ≤ length output) where

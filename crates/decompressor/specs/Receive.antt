@@ -78,15 +78,18 @@ settle a t i sent rest output = settleBy (a .verdict) t i (a .context) sent rest
 -- the fields, read to their end or refused on the way with the context as it was
 abbrev pub settleRead : Place → Applied → Table → (i : ℕ) → (sent : ℕ) → (s output : List ℕ) → Result
 settleRead p a t i sent s output =
-    cond (isAccepted (p .verdict)) (settle a t i sent (drop (p .cursor .at) s) output) (refused t (verdictNumber (p .verdict)) output)
+    cond (isAccepted (p .verdict)) (settle a t i sent (drop (p .cursor .at) s) output)
+    (refused t (verdictNumber (p .verdict)) output)
 
 abbrev pub receiveParts : ReadParts → Table → (i q : ℕ) → (s output : List ℕ) → Result
-receiveParts r t i q s output = settleRead (r .place) (applied (t .settings .repeats) q (contextAt t i) (r .parts)) t i (r .parts .checksum) s output
+receiveParts r t i q s output = settleRead (r .place) (applied (t .settings .repeats) q (contextAt t i) (r .parts)) t i
+    (r .parts .checksum) s output
 
 -- a CU without F, read whole
 abbrev pub receiveWhole : ReadWhole → Table → (i q : ℕ) → (s output : List ℕ) → Result
 receiveWhole r t i q s output =
-    settleRead (r .place) (appliedWhole (t .settings .repeats) q (contextAt t i) (r .parts) (r .header)) t i (r .parts .checksum) s output
+    settleRead (r .place) (appliedWhole (t .settings .repeats) q (contextAt t i) (r .parts) (r .header)) t i
+    (r .parts .checksum) s output
 
 -- a CR on a live context; h: the flag byte
 abbrev pub receiveRtp : Table → (i : ℕ) → Head → (s output : List ℕ) → Result

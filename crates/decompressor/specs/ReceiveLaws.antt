@@ -36,7 +36,9 @@ use Rattle.decompressor.specs.declared.old.OldForm.the-variants.{Taken}
 use Rattle.decompressor.specs.declared.table.Table.{Table}
 use Rattle.decompressor.specs.Answer.{Result, refused, delivered}
 use Rattle.decompressor.specs.Table.{soundOf, contextAt, withContext}
-use Rattle.decompressor.specs.Receive.{packetOf, receivePlain, receiveFull, rebuildTo, settle, settleBy, settleRead, receiveParts, receiveUdp, receiveRtp, receiveOn, receiveCompressed, receiveKind, receiveBy, receiveOf}
+use Rattle.decompressor.specs.Receive.{packetOf, receivePlain, receiveFull, rebuildTo, settle, settleBy, settleRead}
+use Rattle.decompressor.specs.Receive.{receiveParts, receiveUdp, receiveRtp, receiveOn, receiveCompressed, receiveKind}
+use Rattle.decompressor.specs.Receive.{receiveBy, receiveOf}
 
 -- a packet that is judged by its type alone: the table is sound, and the length allowed
 module _ (t : Table) (s output : List ℕ) (sound : soundOf t ≡ true) (some : 1 ≤ length s) (few : length s ≤ 1500) where
@@ -60,7 +62,9 @@ module _ (t : Table) (i g q total : ℕ) (h : Header) (rest output : List ℕ) (
   abbrev full : List ℕ
   full = fhBytes i g q total h ++ rest
 
-  full-read : total ≡ length full → receiveFull t full output ≡ delivered t (withContext t i (filled h (record { sequence = q; generation = g }))) (packetOf h rest) output
+  full-read : total ≡ length full
+      → receiveFull t full output ≡ delivered t (withContext t i (filled h (record { sequence = q; generation = g })))
+      (packetOf h rest) output
   unfolding receiveFull
   full-read e =
       rw (
@@ -71,7 +75,8 @@ module _ (t : Table) (i g q total : ℕ) (h : Header) (rest output : List ℕ) (
       )
 
   pub receive-header : soundOf t ≡ true → total ≡ length full → 1 ≤ length full → length full ≤ 1500
-      → receiveOf t 1 full output ≡ delivered t (withContext t i (filled h (record { sequence = q; generation = g }))) (packetOf h rest) output
+      → receiveOf t 1 full output ≡ delivered t (withContext t i (filled h (record { sequence = q; generation = g })))
+      (packetOf h rest) output
   receive-header sound e some few = receive-full t full output sound some few ∙ full-read e
 
 ---- COMPRESSED_UDP and COMPRESSED_RTP: 6, then 4, then by the context
@@ -87,13 +92,15 @@ module _ (old : OldForm) (kind : ℕ) (t : Table) (s output : List ℕ) where
     compressed-cut e = rw (lt-ltb (contextOf s) (t .settings .contexts) h, e)
 
     pub compressed-on : isAccepted (headOf s .place .verdict) ≡ true
-        → receiveCompressed old kind t s output ≡ receiveOn old (contextAt t (contextOf s) .status) kind t (contextOf s) (headOf s) s output
+        → receiveCompressed old kind t s output ≡ receiveOn old (contextAt t (contextOf s) .status) kind t (contextOf s)
+        (headOf s) s output
     unfolding receiveCompressed
     compressed-on e = rw (lt-ltb (contextOf s) (t .settings .contexts) h, e)
 
 -- rules 3.1, 7.2: a context that is not live is refused 8 and left broken, whatever the gap and the fields
 module _ (old : OldForm) (kind : ℕ) (t : Table) (i : ℕ) (h : Head) (s output : List ℕ) where
-  pub on-notLive : (u : Status) → (u ≡ Live → ⊥) → receiveOn old u kind t i h s output ≡ refused (withContext t i (broke (contextAt t i))) 8 output
+  pub on-notLive : (u : Status) → (u ≡ Live → ⊥)
+      → receiveOn old u kind t i h s output ≡ refused (withContext t i (broke (contextAt t i))) 8 output
   on-notLive Empty n = refl
   on-notLive Live n = absurd (n refl)
   on-notLive Broken n = refl
@@ -116,36 +123,45 @@ module _ (t : Table) (i q g : ℕ) (h : Parts) (after : DecompressorContext) (re
   compressed-head : (kind : ℕ) (f : Flags) (s : List ℕ) → contextOf s ≡ i → headOf s ≡ record { place = good 2; flags = f }
       → receiveCompressed Taken kind t s output ≡ receiveOn Taken Live kind t i (record { place = good 2; flags = f }) s output
   unfolding receiveCompressed
-  compressed-head kind f s c e = rw (c, lt-ltb i (t .settings .contexts) place, e) (on-live kind (record { place = good 2; flags = f }) s)
+  compressed-head kind f s c e = rw (c, lt-ltb i (t .settings .contexts) place, e)
+      (on-live kind (record { place = good 2; flags = f }) s)
 
   module _ (fits : CuFits q (contextAt t i .carried) h) where
     abbrev udp : List ℕ
     udp = cuBytes i q (contextAt t i .carried) h
 
-    udp-read : receiveUdp Taken t i (record { place = good 2; flags = cuFlags q h }) (udp ++ rest) output ≡ rebuildTo t i after (h .checksum) rest output
+    udp-read : receiveUdp Taken t i (record { place = good 2; flags = cuFlags q h }) (udp ++ rest) output
+        ≡ rebuildTo t i after (h .checksum) rest output
     udp-read =
         rw (cuOf-cuBytes i q (contextAt t i .carried) h fits rest)
-        (settle-accepted t i q g (length udp) h after (udp ++ rest) output accepts ∙ ap (λ (l : List ℕ). rebuildTo t i after (h .checksum) l output) (drop-append-seam udp rest))
+        (settle-accepted t i q g (length udp) h after (udp ++ rest) output accepts
+        ∙ ap (λ (l : List ℕ). rebuildTo t i after (h .checksum) l output) (drop-append-seam udp rest))
 
-    pub receive-udp : 1 ≤ length (udp ++ rest) → length (udp ++ rest) ≤ 1500 → receiveOf t 2 (udp ++ rest) output ≡ rebuildTo t i after (h .checksum) rest output
+    pub receive-udp : 1 ≤ length (udp ++ rest) → length (udp ++ rest) ≤ 1500
+        → receiveOf t 2 (udp ++ rest) output ≡ rebuildTo t i after (h .checksum) rest output
     unfolding receiveKind
     receive-udp a b =
         receive-kind t (udp ++ rest) output sound a b 2 (omega arith)
-        ∙ compressed-head 2 (cuFlags q h) (udp ++ rest) (contextOf-cuBytes i q (contextAt t i .carried) h fits rest) (headOf-cuBytes i q (contextAt t i .carried) h fits rest)
+        ∙ compressed-head 2 (cuFlags q h) (udp ++ rest) (contextOf-cuBytes i q (contextAt t i .carried) h fits rest)
+        (headOf-cuBytes i q (contextAt t i .carried) h fits rest)
         ∙ udp-read
 
   module _ (fits : CrFits q (contextAt t i .carried) h) where
     abbrev rtp : List ℕ
     rtp = crBytes i q (contextAt t i .carried) h
 
-    rtp-read : receiveRtp t i (record { place = good 2; flags = crFlags q h }) (rtp ++ rest) output ≡ rebuildTo t i after (h .checksum) rest output
+    rtp-read : receiveRtp t i (record { place = good 2; flags = crFlags q h }) (rtp ++ rest) output
+        ≡ rebuildTo t i after (h .checksum) rest output
     rtp-read =
         rw (crOf-crBytes i q (contextAt t i .carried) h fits rest)
-        (settle-accepted t i q g (length rtp) h after (rtp ++ rest) output accepts ∙ ap (λ (l : List ℕ). rebuildTo t i after (h .checksum) l output) (drop-append-seam rtp rest))
+        (settle-accepted t i q g (length rtp) h after (rtp ++ rest) output accepts
+        ∙ ap (λ (l : List ℕ). rebuildTo t i after (h .checksum) l output) (drop-append-seam rtp rest))
 
-    pub receive-rtp : 1 ≤ length (rtp ++ rest) → length (rtp ++ rest) ≤ 1500 → receiveOf t 3 (rtp ++ rest) output ≡ rebuildTo t i after (h .checksum) rest output
+    pub receive-rtp : 1 ≤ length (rtp ++ rest) → length (rtp ++ rest) ≤ 1500
+        → receiveOf t 3 (rtp ++ rest) output ≡ rebuildTo t i after (h .checksum) rest output
     unfolding receiveKind
     receive-rtp a b =
         receive-kind t (rtp ++ rest) output sound a b 3 (omega arith)
-        ∙ compressed-head 3 (crFlags q h) (rtp ++ rest) (contextOf-crBytes i q (contextAt t i .carried) h fits rest) (headOf-crBytes i q (contextAt t i .carried) h fits rest)
+        ∙ compressed-head 3 (crFlags q h) (rtp ++ rest) (contextOf-crBytes i q (contextAt t i .carried) h fits rest)
+        (headOf-crBytes i q (contextAt t i .carried) h fits rest)
         ∙ rtp-read

@@ -1,4 +1,5 @@
--- Iarwennol. What a step can give, whatever the bytes: a reading never stands past the end, and its values are in range. Assumes nothing.
+-- Iarwennol. What a step can give, whatever the bytes: a reading never stands past the end, and its values are in range. Assumes
+-- nothing.
 -- Used by the ranges of what the link layouts' readers give (links).
 use Prim.Native.Nat.{ℕ, zero, suc, _+_, _-_, _/_, _%_, _^_, _≤_, _<_}
 use mathlib.Core.Path.{_≡_, refl}
@@ -13,7 +14,8 @@ use lib.Seq.{drop-set-lt}
 use Rattle.codes.specs.Bytes.{AllBytes}
 use Rattle.codes.specs.Code.{Row, rows, among}
 use Rattle.codes.specs.Difference.{hasCode}
-use Rattle.codes.specs.Reading.{Reading, accepted, refused, has, byteAt, wordAt, longAt, tripleAt, fieldAt, readByte, readWord, readLong, readDelta, readBy, valueIn, codeAt}
+use Rattle.codes.specs.Reading.{Reading, accepted, refused, has, byteAt, wordAt, longAt, tripleAt, fieldAt, readByte, readWord}
+use Rattle.codes.specs.Reading.{readLong, readDelta, readBy, valueIn, codeAt}
 use Rattle.codes.specs.RoundTrip.{left-after}
 use Rattle.codes.proofs.BytesRead.{allBytes-byteAt}
 use Rattle.packet.specs.Ranges.{ListSound, ListInRange}
@@ -21,12 +23,14 @@ use Rattle.packet.specs.RangesLaws.{zero-words}
 use Rattle.fields.specs.declared.place.Place.{Place}
 use Rattle.packet.specs.Refusal.{isAccepted}
 use Rattle.fields.specs.Place.{passed}
-use Rattle.fields.specs.Next.{next, taken, formed, readPayload, readVersion, nextByte, nextWord, nextLong, nextDelta16, nextDelta32, nextPayload, nextVersion, nextList}
+use Rattle.fields.specs.Next.{next, taken, formed, readPayload, readVersion, nextByte, nextWord, nextLong, nextDelta16}
+use Rattle.fields.specs.Next.{nextDelta32, nextPayload, nextVersion, nextList}
 
 ---- next: what holds of every answer of the reader holds of the step
 
 module _ (read : ℕ → Reading) (p : Place) (w : Bool) where
-  taken-within : (n : ℕ) (r : Reading) (b : Bool) → r .at ≤ n → p .cursor .at ≤ n → eqb (r .number) 0 ≡ b → taken p r .place .cursor .at ≤ n
+  taken-within : (n : ℕ) (r : Reading) (b : Bool) → r .at ≤ n → p .cursor .at ≤ n → eqb (r .number) 0 ≡ b
+      → taken p r .place .cursor .at ≤ n
   taken-within n r true h k e = rw e h
   taken-within n r false h k e = rw e k
 
@@ -34,7 +38,8 @@ module _ (read : ℕ → Reading) (p : Place) (w : Bool) where
   unfolding next
   next-within n h k = by (isAccepted (p .verdict) && w) refl
     where
-      by : (b : Bool) → (isAccepted (p .verdict) && w) ≡ b → cond b (taken p (read (p .cursor .at))) (passed p) .place .cursor .at ≤ n
+      by : (b : Bool) → (isAccepted (p .verdict) && w) ≡ b
+          → cond b (taken p (read (p .cursor .at))) (passed p) .place .cursor .at ≤ n
       by true e = taken-within n (read (p .cursor .at)) _ (h (p .cursor .at)) k refl
       by false e = k
 
@@ -59,7 +64,8 @@ module _ (s : List ℕ) where
   chosen-within false x y h k = k
 
   fieldAt-within : (at n v : ℕ) → fieldAt s at n v .at ≤ length s
-  fieldAt-within at n v = chosen-within (has s at n) (accepted v (at + n)) (refused 4) (λ e. leb-true (at + n) (length s) e) (omega arith)
+  fieldAt-within at n v = chosen-within (has s at n) (accepted v (at + n)) (refused 4) (λ e. leb-true (at + n) (length s) e)
+      (omega arith)
 
   pub readByte-within : (at : ℕ) → readByte s at .at ≤ length s
   unfolding readByte
@@ -80,7 +86,8 @@ module _ (s : List ℕ) where
 
   codeAt-within : (m at size c : ℕ) → codeAt m s at size c .at ≤ length s
   codeAt-within m at size c =
-      chosen-within (has s at size) (valueIn (rows m) m size c (at + size)) (refused 4) (λ e. valueIn-within (rows m) m size c (at + size) (leb-true (at + size) (length s) e)) (omega arith)
+      chosen-within (has s at size) (valueIn (rows m) m size c (at + size)) (refused 4)
+      (λ e. valueIn-within (rows m) m size c (at + size) (leb-true (at + size) (length s) e)) (omega arith)
 
   readBy-within : (m at : ℕ) → readBy m s at .at ≤ length s
   unfolding readBy
@@ -94,7 +101,8 @@ module _ (s : List ℕ) where
 
   formed-within : (ok : ℕ → Bool) (r : Reading) → r .at ≤ length s → formed ok r .at ≤ length s
   formed-within ok r h =
-      chosen-within (eqb (r .number) 0) (cond (ok (r .value)) r (refused 5)) r (λ e. chosen-within (ok (r .value)) r (refused 5) (λ f. h) (omega arith)) h
+      chosen-within (eqb (r .number) 0) (cond (ok (r .value)) r (refused 5)) r
+      (λ e. chosen-within (ok (r .value)) r (refused 5) (λ f. h) (omega arith)) h
 
   pub readPayload-within : (at : ℕ) → readPayload s at .at ≤ length s
   unfolding readPayload
@@ -103,7 +111,8 @@ module _ (s : List ℕ) where
   pub readVersion-within : (at : ℕ) → readVersion s at .at ≤ length s
   unfolding readVersion
   readVersion-within at =
-      chosen-within (has s at 12) _ (refused 4) (λ e. formed-within (λ v. eqb (v / 64) 2) (readByte s at) (readByte-within at)) (omega arith)
+      chosen-within (has s at 12) _ (refused 4) (λ e. formed-within (λ v. eqb (v / 64) 2) (readByte s at) (readByte-within at))
+      (omega arith)
 
 ---- the readers: values in range
 
@@ -129,7 +138,8 @@ module _ (m : ℕ) (s : List ℕ) (Q : ℕ → Type 0) (zero-holds : Q 0) where
   valueIn-value : (rs : List Row) (size c past : ℕ) → OfRows Q m rs → Q (valueIn rs m size c past .value)
   valueIn-value [] size c past h = zero-holds
   valueIn-value (r ∷ rs) size c past h =
-      chosen-value Q (eqb (r .size) size && among (r .code) (r .count) c) _ _ (λ e. h .0 (c - r .code) (row-offset (eqb (r .size) size) (r .code) (r .count) c e)) (valueIn-value rs size c past (h .1))
+      chosen-value Q (eqb (r .size) size && among (r .code) (r .count) c) _ _
+      (λ e. h .0 (c - r .code) (row-offset (eqb (r .size) size) (r .code) (r .count) c e)) (valueIn-value rs size c past (h .1))
 
   codeAt-value : (at size c : ℕ) → OfRows Q m (rows m) → Q (codeAt m s at size c .value)
   codeAt-value at size c h = chosen-value Q (has s at size) _ _ (λ e. valueIn-value (rows m) size c (at + size) h) zero-holds
@@ -143,10 +153,12 @@ module _ (m : ℕ) (s : List ℕ) (Q : ℕ → Type 0) (zero-holds : Q 0) where
 
 -- a difference lies within its field
 pub readDelta16-value : (s : List ℕ) (at : ℕ) → readDelta 16 s at .value < 2 ^ 16
-readDelta16-value s at = readBy-value (2 ^ 16) s (λ x. x < 2 ^ 16) (omega arith) at (λ k h. omega arith, (λ k h. omega arith, (λ k h. omega arith, (λ k h. omega arith, (λ k h. omega arith, 0)))))
+readDelta16-value s at = readBy-value (2 ^ 16) s (λ x. x < 2 ^ 16) (omega arith) at
+    (λ k h. omega arith, (λ k h. omega arith, (λ k h. omega arith, (λ k h. omega arith, (λ k h. omega arith, 0)))))
 
 pub readDelta32-value : (s : List ℕ) (at : ℕ) → readDelta 32 s at .value < 2 ^ 32
-readDelta32-value s at = readBy-value (2 ^ 32) s (λ x. x < 2 ^ 32) (omega arith) at (λ k h. omega arith, (λ k h. omega arith, (λ k h. omega arith, (λ k h. omega arith, (λ k h. omega arith, 0)))))
+readDelta32-value s at = readBy-value (2 ^ 32) s (λ x. x < 2 ^ 32) (omega arith) at
+    (λ k h. omega arith, (λ k h. omega arith, (λ k h. omega arith, (λ k h. omega arith, (λ k h. omega arith, 0)))))
 
 -- rule 4.3: a difference of 32 bits that was read has a code
 hasCode-low : (d : ℕ) → d < 4194304 → hasCode 32 d ≡ true
@@ -158,15 +170,22 @@ unfolding hasCode
 hasCode-high d h = rw (le-leb (2 ^ 32 - 16384) d h) (or-true (ltb d 4194304))
 
 pub readDelta32-coded : (s : List ℕ) (at : ℕ) → hasCode 32 (readDelta 32 s at .value) ≡ true
-readDelta32-coded s at = readBy-value (2 ^ 32) s (λ x. hasCode 32 x ≡ true) (hasCode-low 0 (omega arith)) at
-    (λ k h. hasCode-low _ (omega arith), (λ k h. hasCode-high _ (omega arith), (λ k h. hasCode-low _ (omega arith), (λ k h. hasCode-high _ (omega arith), (λ k h. hasCode-low _ (omega arith), 0)))))
+readDelta32-coded s at = readBy-value (2 ^ 32) s (λ x. hasCode 32 x ≡ true) (hasCode-low 0 (omega arith)) at (
+  λ k h. hasCode-low _ (omega arith),
+  (
+    λ k h. hasCode-high _ (omega arith),
+    (λ k h. hasCode-low _ (omega arith), (λ k h. hasCode-high _ (omega arith), (λ k h. hasCode-low _ (omega arith), 0))),
+  ),
+)
 
 formed-value : (ok : ℕ → Bool) (r : Reading) (Q : ℕ → Type 0) → Q 0 → Q (r .value) → Q (formed ok r .value)
-formed-value ok r Q z h = chosen-value Q (eqb (r .number) 0) (cond (ok (r .value)) r (refused 5)) r (λ e. chosen-value Q (ok (r .value)) r (refused 5) (λ f. h) z) h
+formed-value ok r Q z h = chosen-value Q (eqb (r .number) 0) (cond (ok (r .value)) r (refused 5)) r
+    (λ e. chosen-value Q (ok (r .value)) r (refused 5) (λ f. h) z) h
 
 -- rule 6.3: a payload type has seven bits
 module _ (s : List ℕ) where
-  payload-accepted : (at : ℕ) (b : Bool) → has s at 1 ≡ b → formed (λ v. ltb v 128) (cond b (accepted (byteAt s at) (at + 1)) (refused 4)) .value < 128
+  payload-accepted : (at : ℕ) (b : Bool) → has s at 1 ≡ b
+      → formed (λ v. ltb v 128) (cond b (accepted (byteAt s at) (at + 1)) (refused 4)) .value < 128
   payload-accepted at true e = chosen-value (λ x. x < 128) (ltb (byteAt s at) 128) _ _ (λ f. ltb-true _ _ f) (omega arith)
   payload-accepted at false e = omega arith
 
@@ -279,7 +298,8 @@ module _ (s : List ℕ) (p : Place) where
   list-size (suc n) = simp length-set (list-size n)
 
   -- one word more leaves one zero less
-  blank-less : (ws : List ℕ) (n x : ℕ) → n < 15 → drop n ws ≡ replicate (15 - n) 0 → drop (suc n) (set ws n x) ≡ replicate (15 - suc n) 0
+  blank-less : (ws : List ℕ) (n x : ℕ) → n < 15 → drop n ws ≡ replicate (15 - n) 0
+      → drop (suc n) (set ws n x) ≡ replicate (15 - suc n) 0
   blank-less ws n x h e =
       let d = left-after ws n (replicate (15 - n) 0) e 1 in
       let z : 15 - n ≡ suc (15 - suc n) = omega arith in
@@ -288,7 +308,8 @@ module _ (s : List ℕ) (p : Place) where
   list-blank : (n : ℕ) → n ≤ 15 → drop n (nextList s p n .list .words) ≡ replicate (15 - n) 0
   list-blank zero h = refl
   list-blank (suc n) h =
-      rw (nextList-count n) (blank-less (nextList s p n .list .words) n (nextLong s (nextList s p n .place) true .field .value) (omega arith) (list-blank n (omega arith)))
+      rw (nextList-count n) (blank-less (nextList s p n .list .words) n (nextLong s (nextList s p n .place) true .field .value)
+      (omega arith) (list-blank n (omega arith)))
 
   pub nextList-sound : (n : ℕ) → n ≤ 15 → ListSound (nextList s p n .list)
   nextList-sound n h = record {
@@ -309,7 +330,9 @@ module _ (s : List ℕ) (all : AllBytes s) (p : Place) where
   list-small : (n i : ℕ) → getD (nextList s p n .list .words) i 0 < 2 ^ 32
   list-small zero i = zero-words 15 i
   list-small (suc n) i =
-      set-within (nextList s p n .list .words) (nextList s p n .list .count) (nextLong s (nextList s p n .place) true .field .value) (2 ^ 32) (nextLong-value s all (nextList s p n .place) true) (list-small n) i
+      set-within (nextList s p n .list .words) (nextList s p n .list .count) (nextLong s (nextList s p n .place) true .field .value)
+      (2 ^ 32) (nextLong-value s all (nextList s p n .place) true) (list-small n) i
 
   pub nextList-range : (n : ℕ) → n ≤ 15 → ListInRange (nextList s p n .list)
-  nextList-range n h = let l = nextList-sound s p n h in record { count = l .count; size = l .size; each = list-small n; blank = l .blank }
+  nextList-range n h = let l = nextList-sound s p n h in
+      record { count = l .count; size = l .size; each = list-small n; blank = l .blank }

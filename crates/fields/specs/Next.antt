@@ -21,7 +21,8 @@ use Rattle.packet.specs.Refusal.{isAccepted}
 
 -- what is made of a reader's answer at p: the field and the place past it, or a refusal by the answer's number
 abbrev pub taken : Place → Reading → Step
-taken p r = cond (eqb (r .number) 0) (step (good (r .at)) true (r .value)) (passed (stopped (p .cursor .at) (verdictOf (r .number))))
+taken p r = cond (eqb (r .number) 0) (step (good (r .at)) true (r .value))
+    (passed (stopped (p .cursor .at) (verdictOf (r .number))))
 
 -- the field at p where it is wanted; p as it is where it is not, or where a field before it was refused
 unfoldable pub next : (ℕ → Reading) → Place → Bool → Step
@@ -67,7 +68,8 @@ nextVersion s p = got8 (next (readVersion s) p true)
 
 -- a list with one word more
 abbrev pub withWord : Csrc → Got32 → GotList
-withWord l g = record { place = g .place; list = record { count = suc (l .count); words = set (l .words) (l .count) (g .field .value) } }
+withWord l g =
+    record { place = g .place; list = record { count = suc (l .count); words = set (l .words) (l .count) (g .field .value) } }
 
 -- n words into the first places of a list, whose others are 0
 abbrev pub nextList : List ℕ → Place → ℕ → GotList

@@ -1,5 +1,6 @@
 -- Iarwennol. A field that was written is read back, and the reading goes on past it. Assumes nothing.
--- A reading is about what is left from a place on: `drop at s ≡ written ++ rest`. Used by the round trips of the link layouts (links).
+-- A reading is about what is left from a place on: `drop at s ≡ written ++ rest`. Used by the round trips of the link layouts
+-- (links).
 use Prim.Native.Nat.{ℕ, zero, suc, _+_, _-_, _/_, _^_, _≤_, _<_}
 use mathlib.Core.Path.{_≡_, refl, ap, _∙_}
 use mathlib.Core.Bool.{Bool, true, false, cond}
@@ -14,14 +15,16 @@ use Rattle.codes.specs.Bytes.{bigEndian}
 use Rattle.codes.specs.Code.{codeOf}
 use Rattle.codes.specs.Difference.{hasCode}
 use Rattle.codes.specs.Reading.{Reading, accepted, readByte, readWord, readLong, readDelta}
-use Rattle.codes.specs.RoundTrip.{left-after, left-length, readByte-written, readWord-written, readLong-written, readDelta-16, readDelta-32}
+use Rattle.codes.specs.RoundTrip.{left-after, left-length, readByte-written, readWord-written, readLong-written, readDelta-16}
+use Rattle.codes.specs.RoundTrip.{readDelta-32}
 use Rattle.packet.specs.Ranges.{ListInRange}
 use Rattle.packet.specs.declared.csrc.Csrc.{Csrc}
 use Rattle.bytes.specs.Put.{optional, words, listBytes}
 use Rattle.bytes.specs.PutLaws.{words-take}
 use Rattle.fields.specs.declared.place.GotList.{GotList}
 use Rattle.fields.specs.Place.{good, step, got8, got16, got32}
-use Rattle.fields.specs.Next.{next, readPayload, readVersion, nextByte, nextWord, nextLong, nextDelta16, nextDelta32, nextPayload, nextVersion, nextList}
+use Rattle.fields.specs.Next.{next, readPayload, readVersion, nextByte, nextWord, nextLong, nextDelta16, nextDelta32}
+use Rattle.fields.specs.Next.{nextPayload, nextVersion, nextList}
 
 -- what is left past xs
 pub left-past : (s : List ℕ) (at : ℕ) (xs l : List ℕ) → drop at s ≡ xs ++ l → drop (at + length xs) s ≡ l
@@ -69,36 +72,42 @@ module _ (s : List ℕ) (at : ℕ) (w : Bool) (v : ℕ) (l : List ℕ) (blank : 
       → nextWord s (good at) w ≡ got16 (step (good (at + length (optional w (bigEndian 2 v)))) w v)
   unfolding nextWord
   nextWord-written h e =
-      ap got16 (next-written (readWord s) at w v (bigEndian 2 v) blank (λ t. readWord-written s at v l h (left-sent s at w (bigEndian 2 v) l e t)))
+      ap got16 (next-written (readWord s) at w v (bigEndian 2 v) blank
+      (λ t. readWord-written s at v l h (left-sent s at w (bigEndian 2 v) l e t)))
 
   pub nextLong-written : v < 2 ^ 32 → drop at s ≡ optional w (bigEndian 4 v) ++ l
       → nextLong s (good at) w ≡ got32 (step (good (at + length (optional w (bigEndian 4 v)))) w v)
   unfolding nextLong
   nextLong-written h e =
-      ap got32 (next-written (readLong s) at w v (bigEndian 4 v) blank (λ t. readLong-written s at v l h (left-sent s at w (bigEndian 4 v) l e t)))
+      ap got32 (next-written (readLong s) at w v (bigEndian 4 v) blank
+      (λ t. readLong-written s at v l h (left-sent s at w (bigEndian 4 v) l e t)))
 
   pub nextDelta16-written : v < 2 ^ 16 → drop at s ≡ optional w (codeOf 16 v) ++ l
       → nextDelta16 s (good at) w ≡ got16 (step (good (at + length (optional w (codeOf 16 v)))) w v)
   unfolding nextDelta16
   nextDelta16-written h e =
-      ap got16 (next-written (readDelta 16 s) at w v (codeOf 16 v) blank (λ t. readDelta-16 s at v l h (left-sent s at w (codeOf 16 v) l e t)))
+      ap got16 (next-written (readDelta 16 s) at w v (codeOf 16 v) blank
+      (λ t. readDelta-16 s at v l h (left-sent s at w (codeOf 16 v) l e t)))
 
   pub nextDelta32-written : v < 2 ^ 32 → (w ≡ true → hasCode 32 v ≡ true) → drop at s ≡ optional w (codeOf 32 v) ++ l
       → nextDelta32 s (good at) w ≡ got32 (step (good (at + length (optional w (codeOf 32 v)))) w v)
   unfolding nextDelta32
   nextDelta32-written h c e =
-      ap got32 (next-written (readDelta 32 s) at w v (codeOf 32 v) blank (λ t. readDelta-32 s at v l h (c t) (left-sent s at w (codeOf 32 v) l e t)))
+      ap got32 (next-written (readDelta 32 s) at w v (codeOf 32 v) blank
+      (λ t. readDelta-32 s at v l h (c t) (left-sent s at w (codeOf 32 v) l e t)))
 
   pub nextPayload-written : v < 128 → drop at s ≡ optional w (v ∷ []) ++ l
       → nextPayload s (good at) w ≡ got8 (step (good (at + length (optional w (v ∷ [])))) w v)
   unfolding nextPayload
   nextPayload-written h e =
-      ap got8 (next-written (readPayload s) at w v (v ∷ []) blank (λ t. readPayload-written s at v l h (left-sent s at w (v ∷ []) l e t)))
+      ap got8 (next-written (readPayload s) at w v (v ∷ []) blank
+      (λ t. readPayload-written s at v l h (left-sent s at w (v ∷ []) l e t)))
 
 pub nextVersion-written : (s : List ℕ) (at v : ℕ) (l : List ℕ) → v / 64 ≡ 2 → 11 ≤ length l → drop at s ≡ v ∷ l
     → nextVersion s (good at) ≡ got8 (step (good (at + 1)) true v)
 unfolding nextVersion
-nextVersion-written s at v l h k e = ap got8 (next-written (readVersion s) at true v (v ∷ []) refl (λ t. readVersion-written s at v l h k e))
+nextVersion-written s at v l h k e = ap got8 (next-written (readVersion s) at true v (v ∷ []) refl
+    (λ t. readVersion-written s at v l h k e))
 
 ---- the CSRC list
 

@@ -1,4 +1,5 @@
--- Iarwennol. What the readers of CU and CR give, whatever the bytes: never a place past the end, and parts in range. Assumes nothing.
+-- Iarwennol. What the readers of CU and CR give, whatever the bytes: never a place past the end, and parts in range. Assumes
+-- nothing.
 -- Used by the soundness of the decompressor's contexts.
 use Prim.Native.Nat.{ℕ, _≤_, _<_}
 use mathlib.Core.Path.{_≡_, refl}
@@ -17,7 +18,9 @@ use Rattle.fields.specs.Next.{nextByte, nextWord, nextLong, nextDelta16, nextVe
 use Rattle.links.specs.declared.cu.CuFlags.{CuFlags}
 use Rattle.links.specs.declared.cu.CuSecond.{CuSecond}
 use Rattle.links.specs.declared.cr.CrFlags.{CrFlags}
-use Rattle.fields.proofs.NextRange.{nextByte-within, nextWord-within, nextLong-within, nextDelta16-within, nextDelta32-within, nextPayload-within, nextVersion-within, nextList-within, nextDelta32-coded, nextPayload-value, nextList-sound}
+use Rattle.fields.proofs.NextRange.{nextByte-within, nextWord-within, nextLong-within, nextDelta16-within, nextDelta32-within}
+use Rattle.fields.proofs.NextRange.{nextPayload-within, nextVersion-within, nextList-within, nextDelta32-coded, nextPayload-value}
+use Rattle.fields.proofs.NextRange.{nextList-sound}
 use Rattle.links.specs.declared.cr.Second.{Second}
 use Rattle.links.specs.declared.whole.Fixed.{Fixed}
 use Rattle.links.specs.Cu.{cuFlagsOf, cuSecondOf, changesOf, valuesOf, cuRest, cuOf}
@@ -31,7 +34,8 @@ module _ (s : List ℕ) where
   unfolding changesOf
   changesOf-coded p f carried = nextDelta32-coded s _ (f .dts)
 
-  changesOf-within : (p : Place) (f : CuFlags) (carried : Bool) → p .cursor .at ≤ length s → changesOf s p f carried .place .cursor .at ≤ length s
+  changesOf-within : (p : Place) (f : CuFlags) (carried : Bool) → p .cursor .at ≤ length s
+      → changesOf s p f carried .place .cursor .at ≤ length s
   unfolding changesOf
   changesOf-within p f carried h =
       let a = nextWord-within s p h carried in
@@ -55,11 +59,13 @@ module _ (s : List ℕ) where
       let c = nextPayload-within s (nextLong s (nextWord s p (g .sequence) .place) (g .timestamp) .place) b (g .payload) in
       nextList-within s _ c (g .count)
 
-  cuRest-within : (p : Place) (f : CuFlags) (g : CuSecond) (carried : Bool) → p .cursor .at ≤ length s → cuRest s p f g carried .place .cursor .at ≤ length s
+  cuRest-within : (p : Place) (f : CuFlags) (g : CuSecond) (carried : Bool) → p .cursor .at ≤ length s
+      → cuRest s p f g carried .place .cursor .at ≤ length s
   unfolding cuRest
   cuRest-within p f g carried h = valuesOf-within (changesOf s p f carried .place) g (changesOf-within p f carried h)
 
-  cuRest-sound : (p : Place) (f : CuFlags) (g : CuSecond) (carried : Bool) → g .count < 16 → PartsSound (cuRest s p f g carried .parts)
+  cuRest-sound : (p : Place) (f : CuFlags) (g : CuSecond) (carried : Bool) → g .count < 16
+      → PartsSound (cuRest s p f g carried .parts)
   unfolding cuRest
   cuRest-sound p f g carried h = record {
     payload = valuesOf-payload (changesOf s p f carried .place) g;
@@ -67,13 +73,16 @@ module _ (s : List ℕ) where
     list = valuesOf-list (changesOf s p f carried .place) g h;
   }
 
-  pub cuOf-within : (p : Place) (f : Flags) (carried : Bool) → p .cursor .at ≤ length s → cuOf s p f carried .place .cursor .at ≤ length s
+  pub cuOf-within : (p : Place) (f : Flags) (carried : Bool) → p .cursor .at ≤ length s
+      → cuOf s p f carried .place .cursor .at ≤ length s
   unfolding cuOf
-  cuOf-within p f carried h = cuRest-within (nextByte s p true .place) (cuFlagsOf f) (cuSecondOf (flagsOf (nextByte s p true .field .value))) carried (nextByte-within s p h true)
+  cuOf-within p f carried h = cuRest-within (nextByte s p true .place) (cuFlagsOf f)
+      (cuSecondOf (flagsOf (nextByte s p true .field .value))) carried (nextByte-within s p h true)
 
   pub cuOf-sound : (p : Place) (f : Flags) (carried : Bool) → PartsSound (cuOf s p f carried .parts)
   unfolding cuOf
-  cuOf-sound p f carried = cuRest-sound (nextByte s p true .place) (cuFlagsOf f) (cuSecondOf (flagsOf (nextByte s p true .field .value))) carried (omega arith)
+  cuOf-sound p f carried = cuRest-sound (nextByte s p true .place) (cuFlagsOf f)
+      (cuSecondOf (flagsOf (nextByte s p true .field .value))) carried (omega arith)
 
   ---- CR
 
@@ -84,9 +93,11 @@ module _ (s : List ℕ) where
 
   secondOf-count : (p : Place) (f : CrFlags) → secondOf s p f .count < 16
   unfolding secondOf
-  secondOf-count p f = secondWith-count (allFour f) f (flagsOf (nextByte s p (allFour f) .field .value)) (nextByte s p (allFour f) .place) (omega arith)
+  secondOf-count p f = secondWith-count (allFour f) f (flagsOf (nextByte s p (allFour f) .field .value))
+      (nextByte s p (allFour f) .place) (omega arith)
 
-  secondWith-within : (m : Bool) (f : CrFlags) (g : Flags) (p : Place) → p .cursor .at ≤ length s → secondWith m f g p .place .cursor .at ≤ length s
+  secondWith-within : (m : Bool) (f : CrFlags) (g : Flags) (p : Place) → p .cursor .at ≤ length s
+      → secondWith m f g p .place .cursor .at ≤ length s
   unfolding secondWith
   secondWith-within true f g p h = h
   secondWith-within false f g p h = h
@@ -94,7 +105,8 @@ module _ (s : List ℕ) where
   secondOf-within : (p : Place) (f : CrFlags) → p .cursor .at ≤ length s → secondOf s p f .place .cursor .at ≤ length s
   unfolding secondOf
   secondOf-within p f h =
-      secondWith-within (allFour f) f (flagsOf (nextByte s p (allFour f) .field .value)) (nextByte s p (allFour f) .place) (nextByte-within s p h (allFour f))
+      secondWith-within (allFour f) f (flagsOf (nextByte s p (allFour f) .field .value)) (nextByte s p (allFour f) .place)
+      (nextByte-within s p h (allFour f))
 
   deltasOf-coded : (p : Place) (f : CrFlags) → hasCode 32 (deltasOf s p f .dts .value) ≡ true
   unfolding deltasOf
@@ -109,7 +121,8 @@ module _ (s : List ℕ) where
 
   crRest-within : (checksum : ℕ) (n : Second) → n .place .cursor .at ≤ length s → crRest s checksum n .place .cursor .at ≤ length s
   unfolding crRest
-  crRest-within checksum n h = nextList-within s (deltasOf s (n .place) (n .flags) .place) (deltasOf-within (n .place) (n .flags) h) (n .count)
+  crRest-within checksum n h = nextList-within s (deltasOf s (n .place) (n .flags) .place) (deltasOf-within (n .place) (n .flags) h)
+      (n .count)
 
   crRest-sound : (checksum : ℕ) (n : Second) → n .count < 16 → PartsSound (crRest s checksum n .parts)
   unfolding crRest
@@ -119,14 +132,17 @@ module _ (s : List ℕ) where
     list = nextList-sound s (deltasOf s (n .place) (n .flags) .place) (n .count) (omega arith);
   }
 
-  pub crOf-within : (p : Place) (f : Flags) (carried : Bool) → p .cursor .at ≤ length s → crOf s p f carried .place .cursor .at ≤ length s
+  pub crOf-within : (p : Place) (f : Flags) (carried : Bool) → p .cursor .at ≤ length s
+      → crOf s p f carried .place .cursor .at ≤ length s
   unfolding crOf
   crOf-within p f carried h =
-      crRest-within (nextWord s p carried .field .value) (secondOf s (nextWord s p carried .place) (crFlagsOf f)) (secondOf-within (nextWord s p carried .place) (crFlagsOf f) (nextWord-within s p h carried))
+      crRest-within (nextWord s p carried .field .value) (secondOf s (nextWord s p carried .place) (crFlagsOf f))
+      (secondOf-within (nextWord s p carried .place) (crFlagsOf f) (nextWord-within s p h carried))
 
   pub crOf-sound : (p : Place) (f : Flags) (carried : Bool) → PartsSound (crOf s p f carried .parts)
   unfolding crOf
-  crOf-sound p f carried = crRest-sound (nextWord s p carried .field .value) (secondOf s (nextWord s p carried .place) (crFlagsOf f)) (secondOf-count (nextWord s p carried .place) (crFlagsOf f))
+  crOf-sound p f carried = crRest-sound (nextWord s p carried .field .value)
+      (secondOf s (nextWord s p carried .place) (crFlagsOf f)) (secondOf-count (nextWord s p carried .place) (crFlagsOf f))
 
   ---- CU without F
 
@@ -155,9 +171,11 @@ module _ (s : List ℕ) where
   unfolding rtpOf
   rtpOf-sound p = rtpRest-sound (fixedOf s p) (rtpFirstOf (fixedOf s p .first)) (omega arith)
 
-  pub wholeOf-within : (p : Place) (f : Flags) (carried : Bool) → p .cursor .at ≤ length s → wholeOf s p f carried .place .cursor .at ≤ length s
+  pub wholeOf-within : (p : Place) (f : Flags) (carried : Bool) → p .cursor .at ≤ length s
+      → wholeOf s p f carried .place .cursor .at ≤ length s
   unfolding wholeOf
-  wholeOf-within p f carried h = rtpOf-within (changesOf s p (cuFlagsOf f) carried .place) (changesOf-within p (cuFlagsOf f) carried h)
+  wholeOf-within p f carried h = rtpOf-within (changesOf s p (cuFlagsOf f) carried .place)
+      (changesOf-within p (cuFlagsOf f) carried h)
 
   pub wholeOf-sound : (p : Place) (f : Flags) (carried : Bool) → PartsSound (wholeOf s p f carried .parts)
   unfolding wholeOf

@@ -47,7 +47,8 @@ module _ (k context : ℕ) (f : RecordFlags) (generation : ℕ) where
   unfolding recordWith
   recordWith-good = by (leb k context) refl
     where
-      by : (b : Bool) → leb k context ≡ b → cond b (Refused NoSuchContext) (cond (bitsForbidden f generation) (Refused Forbidden) Accepted) ≡ Accepted
+      by : (b : Bool) → leb k context ≡ b
+          → cond b (Refused NoSuchContext) (cond (bitsForbidden f generation) (Refused Forbidden) Accepted) ≡ Accepted
           → context < k
       by true e g = let z : _≡_ {A = ℕ} 0 1 = cc in absurd (omega arith)
       by false e g = leb-false _ _ e
@@ -76,10 +77,12 @@ module _ (k : ℕ) (s : List ℕ) where
       rw add-zero (recordJudged-context i (firstRefusal-accepted (recordJudged k s i) (recordsJudged k s (suc i) n) e .0))
   recordsJudged-contexts (suc n) i e (suc j) h =
       let q : i + suc j ≡ suc i + j = omega arith in
-      rw q (recordsJudged-contexts n (suc i) (firstRefusal-accepted (recordJudged k s i) (recordsJudged k s (suc i) n) e .1) j (omega arith))
+      rw q (recordsJudged-contexts n (suc i) (firstRefusal-accepted (recordJudged k s i) (recordsJudged k s (suc i) n) e .1) j
+      (omega arith))
 
   request-by : (a b c : Bool) → not (eqb (length s) (2 + 3 * recordCount s)) ≡ c
-      → cond a (Refused Cut) (cond b (Refused Forbidden) (cond c (Refused Cut) (recordsJudged k s 0 (recordCount s)))) ≡ Accepted → RequestGood k s
+      → cond a (Refused Cut) (cond b (Refused Forbidden) (cond c (Refused Cut) (recordsJudged k s 0 (recordCount s)))) ≡ Accepted
+      → RequestGood k s
   request-by true b c f e = let z : _≡_ {A = ℕ} 0 1 = cc in absurd (omega arith)
   request-by false true c f e = let z : _≡_ {A = ℕ} 0 1 = cc in absurd (omega arith)
   request-by false false true f e = let z : _≡_ {A = ℕ} 0 1 = cc in absurd (omega arith)

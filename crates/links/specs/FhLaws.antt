@@ -16,7 +16,8 @@ use Rattle.headers.specs.Header.{countAt, headerOf, ipFront, ipBack, udpBytes, 
 use Rattle.headers.specs.Checksum.{ipChecksumOf, ipChecksum}
 use Rattle.headers.specs.Compressible.{fixedForm}
 use Rattle.headers.specs.CompressibleLaws.{headerSize-headerOf}
-use Rattle.headers.specs.HeaderLaws.{countAt-headerBytes, headerOf-headerBytes, headerOf-range, udpLength-headerBytes, ipChecksum-headerBytes, fixedForm-headerBytes, length-headerBytes, allBytes-headerBytes}
+use Rattle.headers.specs.HeaderLaws.{countAt-headerBytes, headerOf-headerBytes, headerOf-range, udpLength-headerBytes}
+use Rattle.headers.specs.HeaderLaws.{ipChecksum-headerBytes, fixedForm-headerBytes, length-headerBytes, allBytes-headerBytes}
 use Rattle.headers.specs.HeaderLaws.{length-headerBytes, allBytes-headerBytes}
 use Rattle.headers.specs.HeaderLaws.{udpLength-headerBytes, ipChecksum-headerBytes, fixedForm-headerBytes}
 use Rattle.headers.specs.ChecksumLaws.{ipChecksumOf-headerBytes, ipChecksum-lt}
@@ -37,7 +38,9 @@ module _ (k : ℕ) (s : List ℕ) where
   and-first false b c e = sym e
 
   judged-by : (a b c d : Bool) → leb k (byteAt s 3) ≡ b → not (fixedForm s && fieldsForm s && checksumRight s) ≡ c
-      → ltb (length s) (sizeWith (countAt s 28)) ≡ d → cond a (Refused Cut) (cond b (Refused NoSuchContext) (cond c (Refused Forbidden) (cond d (Refused Cut) Accepted))) ≡ Accepted
+      → ltb (length s) (sizeWith (countAt s 28)) ≡ d
+      → cond a (Refused Cut) (cond b (Refused NoSuchContext) (cond c (Refused Forbidden) (cond d (Refused Cut) Accepted)))
+      ≡ Accepted
       → FhGood k s
   judged-by true b c d f g h e = let z : _≡_ {A = ℕ} 0 1 = cc in absurd (omega arith)
   judged-by false true c d f g h e = let z : _≡_ {A = ℕ} 0 1 = cc in absurd (omega arith)

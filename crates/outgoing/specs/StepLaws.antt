@@ -28,7 +28,7 @@ use Rattle.context.proofs.Tests.{cond-both}
 use Rattle.context.proofs.SoundFacts.{LinkBounds, soundLink-bounds}
 use Rattle.context.proofs.CompressorSound.{sound-first, sound-step}
 use Rattle.context.proofs.PartsLaws.{parts-step, link-step, list-step, step-unlisted, cu-listed, step-dsn, cr-bare}
-use Rattle.context.proofs.Ready.{ready-held}
+use Rattle.context.proofs.Begun.{ready-held}
 use Rattle.context.proofs.Lost.{related-lost, moved-held, step-context}
 use Rattle.context.proofs.Arrives.{related-arrives, related-full}
 use Rattle.context.proofs.Others.{related-first-lost, related-first-arrives}

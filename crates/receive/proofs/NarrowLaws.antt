@@ -44,7 +44,8 @@ module _ (n q : ℕ) (c : DecompressorContext) (p : Parts) (live : c .status ≡
 
   module _ (sent : ℕ) (small : q < 16) (s : soundDecompressor c ≡ true) (parts : PartsSound p) where
     pub applied-narrow : applied n q c p .verdict ≡ Accepted → Narrow (rebuilt (applied n q c p .context) sent)
-    applied-narrow e = rebuilt-narrow (applied n q c p .context) sent (applied-live e) (sound-applied n q c p (omega arith) parts live s)
+    applied-narrow e = rebuilt-narrow (applied n q c p .context) sent (applied-live e)
+        (sound-applied n q c p (omega arith) parts live s)
 
     pub whole-narrow : (w : RtpHeader) → HeaderSound w → appliedWhole n q c p w .verdict ≡ Accepted
         → Narrow (rebuilt (appliedWhole n q c p w .context) sent)

@@ -18,7 +18,13 @@ use Rattle.decompressor.specs.Table.{contextAt, withContext}
 
 -- what became of a packet, with the output that it left, and the context set into a table at place i
 abbrev pub placed : Taken → Table → (i : ℕ) → (output : List ℕ) → Result
-placed x t i output = record { number = numberOf (x .outcome); length = lengthOf (x .outcome); output = output; table = withContext t i (x .context) }
+placed x t i output = record {
+  number = numberOf (x .outcome);
+  length = lengthOf (x .outcome);
+  output = output;
+  table =
+      withContext t i (x .context);
+}
 
 -- whatever the table: where it has n repeats and the context c at place i, that is what f makes of it
 pub record Takes (n : ℕ) (c : DecompressorContext) (x : Taken) (output : List ℕ) (f : Table → ℕ → Result) : Type 0 where

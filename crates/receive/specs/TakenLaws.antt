@@ -31,7 +31,8 @@ use Rattle.receive.specs.declared.settle.Taken.{Taken}
 use Rattle.decompressor.specs.Answer.{Result, accepted, refused, delivered}
 use Rattle.decompressor.specs.Table.{noContext, contextAt, withContext, Sound}
 use Rattle.decompressor.specs.TableLaws.{sound-repeats, sound-contextAt}
-use Rattle.decompressor.specs.Receive.{packetOf, rebuildTo, settleRead, receiveParts, receiveWhole, receiveOld, receiveUdp, receiveRtp, receiveOn}
+use Rattle.decompressor.specs.Receive.{packetOf, rebuildTo, settleRead, receiveParts, receiveWhole, receiveOld, receiveUdp}
+use Rattle.decompressor.specs.Receive.{receiveRtp, receiveOn}
 use Rattle.decompressor.specs.declared.old.OldForm.{OldForm}
 use Rattle.decompressor.specs.declared.old.OldForm.the-variants as old
 use Rattle.receive.specs.Taken.{placed, Takes, HeadRead}
@@ -44,24 +45,33 @@ set-getD (x ∷ xs) zero d = refl
 set-getD {A} (x ∷ xs) (suc i) d = ap (λ (r : List A). x ∷ r) (set-getD xs i d)
 
 pub withContext-same : (t : Table) (i : ℕ) (c : DecompressorContext) → contextAt t i ≡ c → withContext t i c ≡ t
-withContext-same t i c e = ap (withContext t i) (sym e) ∙ (λ j. record { settings = t .settings; contexts = set-getD (t .contexts) i noContext j })
+withContext-same t i c e = ap (withContext t i) (sym e)
+    ∙ (λ j. record { settings = t .settings; contexts = set-getD (t .contexts) i noContext j })
 
 ---- Takes
 
 module _ (n : ℕ) (c : DecompressorContext) (output : List ℕ) where
   -- refused, with the context as it was
-  pub takes-refused : (r : Refusal) → Takes n c (record { outcome = Refused r; context = c }) output (λ t i. refused t (refusal.numberOf r) output)
-  takes-refused r = record { anywhere = λ t i e f. ap (λ (u : Table). refused u (refusal.numberOf r) output) (withContext-same t i c f) }
+  pub takes-refused : (r : Refusal)
+      → Takes n c (record { outcome = Refused r; context = c }) output (λ t i. refused t (refusal.numberOf r) output)
+  takes-refused r = record {
+    anywhere = λ t i e f. ap (λ (u : Table). refused u (refusal.numberOf r) output)
+        (withContext-same t i c f);
+  }
 
   -- refused, and the context left otherwise
   pub takes-broken : (r : Refusal) (d : DecompressorContext)
-      → Takes n c (record { outcome = Refused r; context = d }) output (λ t i. refused (withContext t i d) (refusal.numberOf r) output)
+      → Takes n c (record { outcome = Refused r; context = d }) output
+      (λ t i. refused (withContext t i d) (refusal.numberOf r) output)
   takes-broken r d = record { anywhere = λ t i e f. refl }
 
   -- accepted: the bytes are at the front of the output
   pub takes-accepted : (d : DecompressorContext) (m : ℕ) (bytes after : List ℕ) → m ≡ length bytes → after ≡ fronted output bytes
       → Takes n c (record { outcome = Accepted m; context = d }) after (λ t i. accepted (withContext t i d) bytes output)
-  takes-accepted d m bytes after e w = record { anywhere = λ t i x y. λ j. record { number = 0; length = e j; output = w j; table = withContext t i d } }
+  takes-accepted d m bytes after e w = record {
+    anywhere = λ t i x y. λ j.
+        record { number = 0; length = e j; output = w j; table = withContext t i d };
+  }
 
 ---- rebuildTo
 
@@ -74,31 +84,39 @@ module _ (n : ℕ) (before c : DecompressorContext) (bytes output : List ℕ) (t
   made-long h = rw (lt-ltb 1500 total h) (takes-refused n before output TooLong)
 
   module _ (h : total ≤ 1500) where
-    made-noRoom : length output < length bytes → Takes n before (record { outcome = Refused NoRoom; context = before }) output (λ t i. made t i)
+    made-noRoom : length output < length bytes
+        → Takes n before (record { outcome = Refused NoRoom; context = before }) output (λ t i. made t i)
     made-noRoom r = rw (le-ltb 1500 total h, lt-ltb (length output) (length bytes) r) (takes-refused n before output NoRoom)
 
     made-accepted : (m : ℕ) (after : List ℕ) → length bytes ≤ length output → m ≡ length bytes → after ≡ fronted output bytes
         → Takes n before (record { outcome = Accepted m; context = c }) after (λ t i. made t i)
-    made-accepted m after r f w = rw (le-ltb 1500 total h, le-ltb (length output) (length bytes) r) (takes-accepted n before output c m bytes after f w)
+    made-accepted m after r f w = rw (le-ltb 1500 total h, le-ltb (length output) (length bytes) r)
+        (takes-accepted n before output c m bytes after f w)
 
 -- size: how long the packet is
-module _ (n : ℕ) (before c : DecompressorContext) (sent : ℕ) (rest output : List ℕ) (size : ℕ) (e : size ≡ headerSize (rebuilt c sent) + length rest) where
-  pub rebuildTo-long : 1500 < size → Takes n before (record { outcome = Refused TooLong; context = before }) output (λ t i. rebuildTo t i c sent rest output)
-  rebuildTo-long h = made-long n before c (packetOf (rebuilt c sent) rest) output (headerSize (rebuilt c sent) + length rest) (omega arith)
+module _ (n : ℕ) (before c : DecompressorContext) (sent : ℕ) (rest output : List ℕ) (size : ℕ)
+    (e : size ≡ headerSize (rebuilt c sent) + length rest) where
+  pub rebuildTo-long : 1500 < size
+      → Takes n before (record { outcome = Refused TooLong; context = before }) output (λ t i. rebuildTo t i c sent rest output)
+  rebuildTo-long h = made-long n before c (packetOf (rebuilt c sent) rest) output (headerSize (rebuilt c sent) + length rest)
+      (omega arith)
 
   module _ (h : size ≤ 1500) (f : size ≡ length (packetOf (rebuilt c sent) rest)) where
     pub rebuildTo-noRoom : length output < size
         → Takes n before (record { outcome = Refused NoRoom; context = before }) output (λ t i. rebuildTo t i c sent rest output)
-    rebuildTo-noRoom r = made-noRoom n before c (packetOf (rebuilt c sent) rest) output (headerSize (rebuilt c sent) + length rest) (omega arith) (rw (← f) r)
+    rebuildTo-noRoom r = made-noRoom n before c (packetOf (rebuilt c sent) rest) output (headerSize (rebuilt c sent) + length rest)
+        (omega arith) (rw (← f) r)
 
     pub rebuildTo-accepted : (after : List ℕ) → size ≤ length output → after ≡ fronted output (packetOf (rebuilt c sent) rest)
         → Takes n before (record { outcome = Accepted size; context = c }) after (λ t i. rebuildTo t i c sent rest output)
     rebuildTo-accepted after r w =
-        made-accepted n before c (packetOf (rebuilt c sent) rest) output (headerSize (rebuilt c sent) + length rest) (omega arith) size after (rw (← f) r) f w
+        made-accepted n before c (packetOf (rebuilt c sent) rest) output (headerSize (rebuilt c sent) + length rest)
+        (omega arith) size after (rw (← f) r) f w
 
 ---- HeadRead
 
-pub headRead : (t : Table) (i : ℕ) (s : List ℕ) → Sound t → 1 ≤ length s → length s ≤ 1500 → HeadRead (t .settings .repeats) (contextAt t i) (headOf s) s
+pub headRead : (t : Table) (i : ℕ) (s : List ℕ) → Sound t → 1 ≤ length s → length s ≤ 1500
+    → HeadRead (t .settings .repeats) (contextAt t i) (headOf s) s
 headRead t i s sound some few = record {
   few = sound-repeats t sound;
   sound = sound-contextAt t i sound;
@@ -121,11 +139,13 @@ module _ (n : ℕ) (c : DecompressorContext) (x : Taken) (after s output : List 
       → ((m : ℕ) → Takes m c x after (λ t i. settleRead (r .place) (applied n q c (r .parts)) t i (r .parts .checksum) s output))
       → Takes n c x after (λ t i. receiveParts r t i q s output)
   takes-parts q r h = record {
-    anywhere = λ t i e f. h n .anywhere t i e f ∙ sym (λ j. settleRead (r .place) (applied (e j) q (f j) (r .parts)) t i (r .parts .checksum) s output);
+    anywhere = λ t i e f. h n .anywhere t i e f
+        ∙ sym (λ j. settleRead (r .place) (applied (e j) q (f j) (r .parts)) t i (r .parts .checksum) s output);
   }
 
   takes-wholeParts : (q : ℕ) (r : ReadWhole)
-      → ((m : ℕ) → Takes m c x after (λ t i. settleRead (r .place) (appliedWhole n q c (r .parts) (r .header)) t i (r .parts .checksum) s output))
+      → ((m : ℕ) → Takes m c x after (λ t i. settleRead (r .place) (appliedWhole n q c (r .parts) (r .header)) t i
+      (r .parts .checksum) s output))
       → Takes n c x after (λ t i. receiveWhole r t i q s output)
   takes-wholeParts q r h = record {
     anywhere = λ t i e f. h n .anywhere t i e f
@@ -133,7 +153,8 @@ module _ (n : ℕ) (c : DecompressorContext) (x : Taken) (after s output : List 
   }
 
   pub takes-whole : (h : Head) (r : ReadWhole) → r ≡ wholeOf s (h .place) (h .flags) (checksumRead c)
-      → ((m : ℕ) → Takes m c x after (λ t i. settleRead (r .place) (appliedWhole n (h .flags .low) c (r .parts) (r .header)) t i (r .parts .checksum) s output))
+      → ((m : ℕ) → Takes m c x after (λ t i. settleRead (r .place) (appliedWhole n (h .flags .low) c (r .parts) (r .header)) t i
+      (r .parts .checksum) s output))
       → Takes n c x after (λ t i. receiveOld old.Taken t i h s output)
   unfolding receiveOld
   takes-whole h r w k = record {
@@ -142,10 +163,12 @@ module _ (n : ℕ) (c : DecompressorContext) (x : Taken) (after s output : List 
         ∙ sym (λ j. receiveWhole (wholeOf s (h .place) (h .flags) (checksumRead (f j))) t i (h .flags .low) s output);
   }
 
-  pub takes-rtp : (h : Head) → Takes n c x after (λ t i. receiveParts (crOf s (h .place) (h .flags) (checksumRead c)) t i (h .flags .low) s output)
+  pub takes-rtp : (h : Head)
+      → Takes n c x after (λ t i. receiveParts (crOf s (h .place) (h .flags) (checksumRead c)) t i (h .flags .low) s output)
       → Takes n c x after (λ t i. receiveRtp t i h s output)
   takes-rtp h k = record {
-    anywhere = λ t i e f. k .anywhere t i e f ∙ sym (λ j. receiveParts (crOf s (h .place) (h .flags) (checksumRead (f j))) t i (h .flags .low) s output);
+    anywhere = λ t i e f. k .anywhere t i e f
+        ∙ sym (λ j. receiveParts (crOf s (h .place) (h .flags) (checksumRead (f j))) t i (h .flags .low) s output);
   }
 
   -- there is one way to take a CU without F
@@ -154,25 +177,29 @@ module _ (n : ℕ) (c : DecompressorContext) (x : Taken) (after s output : List 
   takes-form old.Taken h k = k
 
   module _ (form : OldForm) (h : Head) where
-    pub takes-udp : cuFlagsOf (h .flags) .values ≡ true → Takes n c x after (λ t i. receiveParts (cuOf s (h .place) (h .flags) (checksumRead c)) t i (h .flags .low) s output)
+    pub takes-udp : cuFlagsOf (h .flags) .values ≡ true
+        → Takes n c x after (λ t i. receiveParts (cuOf s (h .place) (h .flags) (checksumRead c)) t i (h .flags .low) s output)
         → Takes n c x after (λ t i. receiveUdp form t i h s output)
     takes-udp g k = record {
       anywhere = λ t i e f. k .anywhere t i e f
-          ∙ sym (λ j. cond (g j) (receiveParts (cuOf s (h .place) (h .flags) (checksumRead (f j))) t i (h .flags .low) s output) (receiveOld form t i h s output));
+          ∙ sym (λ j. cond (g j) (receiveParts (cuOf s (h .place) (h .flags) (checksumRead (f j))) t i (h .flags .low) s output)
+          (receiveOld form t i h s output));
     }
 
     pub takes-old : cuFlagsOf (h .flags) .values ≡ false → Takes n c x after (λ t i. receiveOld old.Taken t i h s output)
         → Takes n c x after (λ t i. receiveUdp form t i h s output)
     takes-old g k = record {
       anywhere = λ t i e f. takes-form form h k .anywhere t i e f
-          ∙ sym (λ j. cond (g j) (receiveParts (cuOf s (h .place) (h .flags) (checksumRead (contextAt t i))) t i (h .flags .low) s output) (receiveOld form t i h s output));
+          ∙ sym (λ j. cond (g j) (receiveParts (cuOf s (h .place) (h .flags) (checksumRead (contextAt t i))) t i
+          (h .flags .low) s output) (receiveOld form t i h s output));
     }
 
     ---- receiveOn: by the context's status, then by type
 
     module _ (kind : ℕ) where
       on-live : c .status ≡ Live → (t : Table) (i : ℕ)
-          → receiveOn form (c .status) kind t i h s output ≡ cond (eqb kind 2) (receiveUdp form t i h s output) (receiveRtp t i h s output)
+          → receiveOn form (c .status) kind t i h s output
+          ≡ cond (eqb kind 2) (receiveUdp form t i h s output) (receiveRtp t i h s output)
       on-live g t i = ap (λ (u : Status). receiveOn form u kind t i h s output) g
 
       pub takes-liveUdp : c .status ≡ Live → eqb kind 2 ≡ true → Takes n c x after (λ t i. receiveUdp form t i h s output)
@@ -198,5 +225,7 @@ module _ (form : OldForm) (n kind : ℕ) (c : DecompressorContext) (h : Head) (s
   notLive-by Live g t i = absurd (false≢true g)
 
   pub takes-notLive : notLive (c .status) ≡ true
-      → Takes n c (record { outcome = Refused NotLive; context = broke c }) output (λ t i. receiveOn form (c .status) kind t i h s output)
-  takes-notLive g = record { anywhere = λ t i e f. sym (notLive-by (c .status) g t i ∙ (λ j. refused (withContext t i (broke (f j))) 8 output)) }
+      → Takes n c (record { outcome = Refused NotLive; context = broke c }) output
+      (λ t i. receiveOn form (c .status) kind t i h s output)
+  takes-notLive g =
+      record { anywhere = λ t i e f. sym (notLive-by (c .status) g t i ∙ (λ j. refused (withContext t i (broke (f j))) 8 output)) }

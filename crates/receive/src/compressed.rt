@@ -42,7 +42,8 @@ fn receive_parts(
     s: &[u8],
     out: &mut [u8],
 ) -> Taken
-    requires { ⌜ (n ≤ 14) × (q < 16) × (c .status ≡ Live) × (soundDecompressor c ≡ true) × PartsSound (x .parts) × (x .place .cursor .at ≤ length (now s)) × (length (now s) ≤ 1500) ⌝ }
+    requires { ⌜ (n ≤ 14) × (q < 16) × (c .status ≡ Live) × (soundDecompressor c ≡ true) × PartsSound (x .parts)
+        × (x .place .cursor .at ≤ length (now s)) × (length (now s) ≤ 1500) ⌝ }
     ensures { λ r. ⌜ Takes n c r (now (out .exit)) (λ t i. receiveParts x t i q (now (s .entry)) (now (out .entry))) ⌝ }
 {
     let parts = x.parts;
@@ -120,7 +121,8 @@ fn receive_on(
     out: &mut [u8],
 ) -> Taken
     requires { ⌜ HeadRead n c h (now s) ⌝ }
-    ensures { λ r. ⌜ Takes n c r (now (out .exit)) (λ t i. receiveOn old (c .status) kind t i h (now (s .entry)) (now (out .entry))) ⌝ }
+    ensures { λ r. ⌜ Takes n c r (now (out .exit))
+        (λ t i. receiveOn old (c .status) kind t i h (now (s .entry)) (now (out .entry))) ⌝ }
 {
     let status = c.status;
     match status {

@@ -20,7 +20,8 @@ use refresh::fh::read_fh;
 // A full header that was judged good. The packet is as long as it, since only what stands in two fields differs.
 fn accept_full(t: Table, s: &[u8], out: &mut [u8]) -> Answer
     requires { ⌜ Sound t × (fhJudged (t .settings .contexts) (now s) ≡ Accepted) × (length (now s) ≤ 1500) ⌝ }
-    ensures { λ r. ⌜ said r (now (out .exit)) ≡ delivered t (fullTable t (fhOf (now (s .entry)))) (packetOf (fhOf (now (s .entry)) .header) (drop (fhOf (now (s .entry)) .start) (now (s .entry)))) (now (out .entry)) ⌝ }
+    ensures { λ r. ⌜ said r (now (out .exit)) ≡ delivered t (fullTable t (fhOf (now (s .entry))))
+        (packetOf (fhOf (now (s .entry)) .header) (drop (fhOf (now (s .entry)) .start) (now (s .entry)))) (now (out .entry)) ⌝ }
 {
     let size = s.len();
     if out.len() < size {

@@ -34,7 +34,8 @@ pub fn rebuild_to(
     out: &mut [u8],
 ) -> Taken
     requires { ⌜ Narrow (rebuilt c sent) × (length (now rest) ≤ 1500) ⌝ }
-    ensures { λ r. ⌜ ((n : ℕ) → Takes n before r (now (out .exit)) (λ t i. rebuildTo t i c sent (now (rest .entry)) (now (out .entry)))) ⌝ }
+    ensures { λ r.
+        ⌜ ((n : ℕ) → Takes n before r (now (out .exit)) (λ t i. rebuildTo t i c sent (now (rest .entry)) (now (out .entry)))) ⌝ }
 {
     let header = rebuild(c, sent);
     let size = packet_size(header, rest);
@@ -66,7 +67,8 @@ pub fn settle(
     out: &mut [u8],
 ) -> Taken
     requires { ⌜ (a .verdict ≡ Accepted → Narrow (rebuilt (a .context) sent)) × (length (now rest) ≤ 1500) ⌝ }
-    ensures { λ r. ⌜ ((n : ℕ) → Takes n before r (now (out .exit)) (λ t i. settle a t i sent (now (rest .entry)) (now (out .entry)))) ⌝ }
+    ensures { λ r.
+        ⌜ ((n : ℕ) → Takes n before r (now (out .exit)) (λ t i. settle a t i sent (now (rest .entry)) (now (out .entry)))) ⌝ }
 {
     let found = a.verdict;
     let context = a.context;
@@ -88,8 +90,10 @@ pub fn settle_read(
     s: &[u8],
     out: &mut [u8],
 ) -> Taken
-    requires { ⌜ (a .verdict ≡ Accepted → Narrow (rebuilt (a .context) sent)) × (p .cursor .at ≤ length (now s)) × (length (now s) ≤ 1500) ⌝ }
-    ensures { λ r. ⌜ ((n : ℕ) → Takes n before r (now (out .exit)) (λ t i. settleRead p a t i sent (now (s .entry)) (now (out .entry)))) ⌝ }
+    requires { ⌜ (a .verdict ≡ Accepted → Narrow (rebuilt (a .context) sent)) × (p .cursor .at ≤ length (now s))
+        × (length (now s) ≤ 1500) ⌝ }
+    ensures { λ r.
+        ⌜ ((n : ℕ) → Takes n before r (now (out .exit)) (λ t i. settleRead p a t i sent (now (s .entry)) (now (out .entry)))) ⌝ }
 {
     let found = p.verdict;
     match found {

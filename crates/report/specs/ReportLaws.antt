@@ -13,9 +13,11 @@ use lib.ListN.{length, getD, take, drop, length-append, take-append-drop}
 use lib.Seq.{take-suc, take-all, length-take-le}
 use Rattle.packet.specs.declared.refusal.Verdict.the-variants.{Accepted}
 use Rattle.links.specs.Cs.{State, recordsBytes, csBytes, requestJudged}
-use Rattle.links.specs.CsLaws.{StateFits, StatesFit, none-fit, more-fit, length-recordsBytes, length-csBytes, recordsBytes-append, requestJudged-csBytes}
+use Rattle.links.specs.CsLaws.{StateFits, StatesFit, none-fit, more-fit, length-recordsBytes, length-csBytes, recordsBytes-append}
+use Rattle.links.specs.CsLaws.{requestJudged-csBytes}
 use Rattle.context.specs.All.{all}
-use Rattle.context.specs.Sound.{zeroFlow, zeroIp, zeroRtp, zeroList, zeroDeltas, zeroLink, filledSound, unfilledSound, soundDecompressor, soundDecompressorBy}
+use Rattle.context.specs.Sound.{zeroFlow, zeroIp, zeroRtp, zeroList, zeroDeltas, zeroLink, filledSound, unfilledSound}
+use Rattle.context.specs.Sound.{soundDecompressor, soundDecompressorBy}
 use Rattle.context.proofs.SoundFacts.{LinkBounds, filledSound-bounds}
 use Rattle.context.specs.declared.decompressor.Status.{Status}
 use Rattle.context.specs.declared.decompressor.Status.the-variants.{Empty, Live, Broken}
@@ -40,7 +42,8 @@ statesFrom-append : (k : ℕ) (a b : List DecompressorContext) → statesFrom k 
 statesFrom-append k [] b = rw add-zero
 statesFrom-append k (c ∷ a) b =
     let e : k + suc (length a) ≡ suc k + length a = omega arith in
-    by-broken (isBroken c) (stateOf k c) (statesFrom (suc k) (a ++ b)) (statesFrom (suc k) a) (statesFrom (k + suc (length a)) b) (rw e (statesFrom-append (suc k) a b))
+    by-broken (isBroken c) (stateOf k c) (statesFrom (suc k) (a ++ b)) (statesFrom (suc k) a) (statesFrom (k + suc (length a)) b)
+    (rw e (statesFrom-append (suc k) a b))
 
 module _ (l : List DecompressorContext) (i : ℕ) where
   -- what is said of the contexts before place i, and of those from it on
@@ -61,7 +64,8 @@ module _ (l : List DecompressorContext) (i : ℕ) where
   states-all h = ap (statesFrom 0) (take-all i l h)
 
   -- one context more
-  pub states-more : (d : DecompressorContext) → i < length l → statesFrom 0 (take (i + 1) l) ≡ statesBefore ++ statesOf i (getD l i d)
+  pub states-more : (d : DecompressorContext) → i < length l
+      → statesFrom 0 (take (i + 1) l) ≡ statesBefore ++ statesOf i (getD l i d)
   states-more d h =
       rw (add-one, take-suc l i d h)
       (statesFrom-append 0 (take i l) (getD l i d ∷ []) ∙ rw (length-take-le i l (omega arith), zero-add))
@@ -79,11 +83,13 @@ module _ (l : List DecompressorContext) (i : ℕ) (d : DecompressorContext) (h :
   pub count-more : length (statesBefore l (i + 1)) ≡ length (statesBefore l i) + cond (isBroken (getD l i d)) 1 0
   count-more = rw (states-more l i d h, length-append, length-statesOf i (getD l i d))
 
-  pub records-more : recordsBytes (statesBefore l (i + 1)) ≡ recordsBytes (statesBefore l i) ++ recordsBytes (statesOf i (getD l i d))
+  pub records-more : recordsBytes (statesBefore l (i + 1))
+      ≡ recordsBytes (statesBefore l i) ++ recordsBytes (statesOf i (getD l i d))
   records-more = ap recordsBytes (states-more l i d h) ∙ recordsBytes-append (statesBefore l i) (statesOf i (getD l i d))
 
   -- the records of this context, after those before it, are no more than all
-  pub records-room : length (recordsBytes (statesBefore l i)) + length (recordsBytes (statesOf i (getD l i d))) ≤ length (recordsBytes (statesFrom 0 l))
+  pub records-room : length (recordsBytes (statesBefore l i)) + length (recordsBytes (statesOf i (getD l i d))) ≤ length
+      (recordsBytes (statesFrom 0 l))
   records-room =
       let a = length-recordsBytes (statesBefore l (i + 1)) in
       let b = length-recordsBytes (statesFrom 0 l) in
@@ -97,10 +103,15 @@ module _ (l : List DecompressorContext) (i : ℕ) (d : DecompressorContext) (h :
 unfilled-link : (c : DecompressorContext) → unfilledSound c ≡ true → LinkBounds (c .link)
 unfolding unfilledSound
 unfilled-link c e =
-    let others = zeroFlow (c .flow) && zeroIp (c .ip) && zeroRtp (c .rtp) && zeroList (c .csrc) && not (c .carried) && not (c .marker) && zeroDeltas (c .deltas) in
+    let others = zeroFlow (c .flow) && zeroIp (c .ip) && zeroRtp (c .rtp) && zeroList (c .csrc) && not (c .carried) && not
+    (c .marker) && zeroDeltas (c .deltas) in
     let z = and-eq-true-iff others (zeroLink (c .link)) .0 e .1 in
     let p = and-eq-true-iff (eqb (c .link .sequence) 0) (eqb (c .link .generation) 0) .0 z in
-    record { sequence = omega (arith, eqb-true (c .link .sequence) 0 (p .0)); generation = omega (arith, eqb-true (c .link .generation) 0 (p .1)) }
+    record {
+      sequence = omega (arith, eqb-true (c .link .sequence) 0 (p .0));
+      generation =
+          omega (arith, eqb-true (c .link .generation) 0 (p .1));
+    }
 
 filled-link : (c : DecompressorContext) → filledSound c ≡ true → LinkBounds (c .link)
 filled-link c e = filledSound-bounds c e .link
@@ -150,10 +161,12 @@ module _ (t : Table) (output : List ℕ) (sound : soundOf t ≡ true) where
       size-some : 2 + 3 * n ≡ length (reportBytes t)
       size-some = rw bytes-some (omega (arith, length-csBytes (statesFrom 0 (t .contexts))))
 
-      pub report-noRoom : length output < 2 + 3 * n → said (record { outcome = Refused NoRoom; table = t }) output ≡ reportOf t output
+      pub report-noRoom : length output < 2 + 3 * n
+          → said (record { outcome = Refused NoRoom; table = t }) output ≡ reportOf t output
       report-noRoom h = said-noRoom t t (reportBytes t) output (rw (← size-some) h) ∙ sym reportOf-sound
 
-      pub report-accepted : (out : List ℕ) (r : ℕ) → 2 + 3 * n ≤ length output → Wrote output out 0 r (csBytes (statesFrom 0 (t .contexts)))
+      pub report-accepted : (out : List ℕ) (r : ℕ) → 2 + 3 * n ≤ length output
+          → Wrote output out 0 r (csBytes (statesFrom 0 (t .contexts)))
           → said (record { outcome = Accepted (2 + 3 * n); table = t }) out ≡ reportOf t output
       report-accepted out r h w =
           let room : length (reportBytes t) ≤ length output = rw (← size-some) h in
@@ -189,13 +202,15 @@ module _ (k : ℕ) where
       record { context = h; link = omega (arith, b .sequence); generation = omega (arith, b .generation) }
 
   -- a context that is broken is one that the settings give
-  broken-among : (i : ℕ) (c : DecompressorContext) (cs : List DecompressorContext) → all isEmpty (drop (k - i) (c ∷ cs)) ≡ true → isBroken c ≡ true → (d : ℕ) → k - i ≡ d → i < k
+  broken-among : (i : ℕ) (c : DecompressorContext) (cs : List DecompressorContext) → all isEmpty (drop (k - i) (c ∷ cs)) ≡ true
+      → isBroken c ≡ true → (d : ℕ) → k - i ≡ d → i < k
   broken-among i c cs e b zero z =
       let f : all isEmpty (c ∷ cs) ≡ true = rw z at e in
       absurd (empty-broken (c .status) (and-eq-true-iff (isEmpty c) (all isEmpty cs) .0 f .0) b)
   broken-among i c cs e b (suc d) z = omega arith
 
-  rest-empty : (i : ℕ) (c : DecompressorContext) (cs : List DecompressorContext) (d : ℕ) → k - i ≡ d → all isEmpty (drop (k - i) (c ∷ cs)) ≡ true → all isEmpty (drop (k - suc i) cs) ≡ true
+  rest-empty : (i : ℕ) (c : DecompressorContext) (cs : List DecompressorContext) (d : ℕ) → k - i ≡ d
+      → all isEmpty (drop (k - i) (c ∷ cs)) ≡ true → all isEmpty (drop (k - suc i) cs) ≡ true
   rest-empty i c cs zero z e =
       let f : all isEmpty (c ∷ cs) ≡ true = rw z at e in
       let q : k - suc i ≡ 0 = omega arith in
@@ -208,7 +223,8 @@ module _ (k : ℕ) where
   fit-if true r rs f s = more-fit (f refl) s
   fit-if false r rs f s = s
 
-  states-fit : (i : ℕ) (l : List DecompressorContext) → all soundDecompressor l ≡ true → all isEmpty (drop (k - i) l) ≡ true → StatesFit k (statesFrom i l)
+  states-fit : (i : ℕ) (l : List DecompressorContext) → all soundDecompressor l ≡ true → all isEmpty (drop (k - i) l) ≡ true
+      → StatesFit k (statesFrom i l)
   states-fit i [] s e = none-fit
   states-fit i (c ∷ cs) s e =
       let p = and-eq-true-iff (soundDecompressor c) (all soundDecompressor cs) .0 s in
@@ -217,7 +233,9 @@ module _ (k : ℕ) where
       (states-fit (suc i) cs (p .1) (rest-empty i c cs (k - i) refl e))
 
 -- what a sound table reports, if it reports anything, is a good request
-pub report-good : (t : Table) → Sound t → 0 < length (statesFrom 0 (t .contexts)) → requestJudged (t .settings .contexts) (reportBytes t) ≡ Accepted
+pub report-good : (t : Table) → Sound t → 0 < length (statesFrom 0 (t .contexts))
+    → requestJudged (t .settings .contexts) (reportBytes t) ≡ Accepted
 report-good t s h =
     rw (reportOn-some (statesFrom 0 (t .contexts)) h)
-    (requestJudged-csBytes (t .settings .contexts) (statesFrom 0 (t .contexts)) h (states-fit (t .settings .contexts) 0 (t .contexts) (s .contexts) (rw sub-zero (s .rest))))
+    (requestJudged-csBytes (t .settings .contexts) (statesFrom 0 (t .contexts)) h
+    (states-fit (t .settings .contexts) 0 (t .contexts) (s .contexts) (rw sub-zero (s .rest))))

@@ -65,7 +65,8 @@ fn put_state(out: &mut [u8], at: usize, i: usize, c: DecompressorContext) -> usi
 }
 
 fn put_states(out: &mut [u8], at: usize, contexts: [DecompressorContext; Settings::PLACES]) -> usize
-    requires { ⌜ (all soundDecompressor contexts ≡ true) × (at + length (recordsBytes (statesFrom 0 contexts)) ≤ length (now out)) ⌝ }
+    requires { ⌜ (all soundDecompressor contexts ≡ true)
+        × (at + length (recordsBytes (statesFrom 0 contexts)) ≤ length (now out)) ⌝ }
     ensures { λ r. ⌜ Wrote (now (out .entry)) (now (out .exit)) at r (recordsBytes (statesFrom 0 contexts)) ⌝ }
 {
     let mut o = at;

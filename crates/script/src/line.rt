@@ -5,8 +5,8 @@ use script_text::word::first_word;
 
 // Both ends' tables.
 pub struct Tables {
-    pub compressor: compressor::table::Table,
-    pub decompressor: decompressor::table::Table,
+    pub compressor: crtp::CompressorTable,
+    pub decompressor: crtp::DecompressorTable,
 }
 
 // What a line leaves: the tables, and how far the text of answers is filled.
@@ -18,8 +18,8 @@ pub struct Ran {
 // The tables before any opening: calls on them are refused 1.
 pub fn unopened() -> Tables {
     Tables {
-        compressor: compressor::table::unopened(),
-        decompressor: decompressor::table::unopened(),
+        compressor: crtp::no_compressor(),
+        decompressor: crtp::no_decompressor(),
     }
 }
 

@@ -1,6 +1,6 @@
 ghost use Prim.Native.Nat.{_≤_};
 ghost use lib.ListN.{length};
-use compressor::answer::Outcome;
+use crtp::CompressorOutcome as Outcome;
 use script_fields::refusal::refusal_number;
 use script_text::answer::put_next;
 use script_text::answer::put_output;

@@ -5,9 +5,10 @@ use crate::answer::put_requested;
 use crate::answer::put_sent;
 use crate::ran::Ran;
 use crate::ran::unknown;
-use compressor::table::Table;
-use compressor::table::open;
-use request::request;
+use crtp::CompressorTable as Table;
+use crtp::open_compressor as open;
+use crtp::request;
+use crtp::send;
 use script_text::hex::Decoded;
 use script_text::number::Pair;
 use script_text::number::last_pair;
@@ -16,7 +17,6 @@ use script_text::packet::last_bytes;
 use script_text::packet::packet_at;
 use script_text::room::fill;
 use script_text::word::Word;
-use send::send;
 
 // os N K
 pub fn run_open(t: Table, line: &[u8], w: Word, text: &mut [u8], at: usize) -> Ran

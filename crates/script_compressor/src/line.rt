@@ -7,7 +7,7 @@ use crate::ran::Ran;
 use crate::ran::unknown;
 use crate::row::run_write;
 use crate::row::show;
-use compressor::table::Table;
+use crtp::CompressorTable as Table;
 use script_text::word::Word;
 use script_text::word::name_index;
 

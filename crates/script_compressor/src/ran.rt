@@ -1,6 +1,6 @@
 ghost use Prim.Native.Nat.{_≤_};
 ghost use lib.ListN.{length};
-use compressor::table::Table;
+use crtp::CompressorTable as Table;
 use script_text::text::put;
 
 // What a line leaves: the table, and how far the text of answers is filled.

@@ -1,6 +1,6 @@
 ghost use Prim.Native.Nat.{_≤_};
 ghost use lib.ListN.{length};
-use decompressor::answer::Outcome;
+use crtp::DecompressorOutcome as Outcome;
 use script_fields::refusal::refusal_number;
 use script_text::answer::put_output;
 use script_text::text::put_number;

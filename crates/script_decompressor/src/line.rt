@@ -7,7 +7,7 @@ use crate::ran::Ran;
 use crate::ran::unknown;
 use crate::row::run_write;
 use crate::row::show;
-use decompressor::table::Table;
+use crtp::DecompressorTable as Table;
 use script_text::word::Word;
 use script_text::word::name_index;
 

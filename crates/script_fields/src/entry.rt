@@ -1,9 +1,9 @@
 ghost use Prim.Native.Nat.{_≤_, _<_};
 ghost use lib.ListN.{length};
 ghost use Rattle.script_fields.specs.Entry.{contextOf, placeOf};
+use crtp::Settings;
 use script_text::text::put;
 use script_text::text::put_all;
-use settings::Settings;
 
 // What a line writes into a table: N (true) or K (false), or a number at a place of a context's row.
 pub enum Entry {

@@ -1,4 +1,4 @@
-use packet::refusal::Refusal;
+use crtp::Refusal;
 
 // The number by which a script shows a refusal.
 pub fn refusal_number(r: Refusal) -> u64 {

@@ -1,8 +1,8 @@
-use context::kept::Deltas;
-use packet::csrc::Csrc;
-use packet::header::Flow;
-use packet::header::Ip;
-use packet::header::Rtp;
+use crtp::Csrc;
+use crtp::Deltas;
+use crtp::Flow;
+use crtp::Ip;
+use crtp::Rtp;
 
 // The largest number that the type of the field at a place up to 33 holds, but for the status at 0.
 pub fn most(place: usize) -> u32 {

@@ -1,11 +1,11 @@
 ghost use Prim.Native.Nat.{_≤_, _<_};
 ghost use lib.ListN.{length};
 ghost use Rattle.script_fields.specs.Entry.{contextOf, placeOf};
-use context::compressor::CompressorContext;
-use context::compressor::Due;
-use context::compressor::Earlier;
-use context::compressor::Usage;
-use context::kept::Link;
+use crtp::CompressorContext;
+use crtp::Due;
+use crtp::Earlier;
+use crtp::Link;
+use crtp::Usage;
 use script_fields::entry;
 use script_fields::entry::Entry;
 use script_fields::shared;

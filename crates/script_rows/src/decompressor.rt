@@ -1,9 +1,9 @@
 ghost use Prim.Native.Nat.{_≤_, _<_};
 ghost use lib.ListN.{length};
 ghost use Rattle.script_fields.specs.Entry.{contextOf, placeOf};
-use context::decompressor::DecompressorContext;
-use context::decompressor::Status;
-use context::kept::Link;
+use crtp::DecompressorContext;
+use crtp::Link;
+use crtp::Status;
 use script_fields::entry;
 use script_fields::entry::Entry;
 use script_fields::shared;

@@ -18,7 +18,7 @@ use Rattle.compressor.specs.Send.{stepOn, kindNumber, linkBytes, sentBytes, sen
 use Rattle.context.proofs.Arrays.{part-rest}
 use Rattle.outgoing.specs.Size.{linkSize, Writable}
 use Rattle.outgoing.specs.SizeLaws.{length-linkBytes}
-use Rattle.compressor.specs.Ready.{sendWith}
+use Rattle.compressor.specs.CanSend.{sendWith}
 use Rattle.compressor.specs.SentLaws.{length-sentBytes}
 
 -- a: the step; size, start: the bytes that go out before the rest of the packet, and the place where that begins
@@ -28,16 +28,20 @@ module _ (t : Table) (i : ℕ) (p output : List ℕ) (h : Header) (a : Step) (w 
   all-sent = rw (e, f) (length-sentBytes i p h a w)
 
   step-refused : length output < size + (length p - start) → refused t 11 output ≡ sendStep t i p output h a
-  step-refused l = delivered-refused t (withContext t i (a .context)) (kindNumber (a .kind)) (sentBytes i p h a) output (omega (arith, all-sent, l))
+  step-refused l = delivered-refused t (withContext t i (a .context)) (kindNumber (a .kind)) (sentBytes i p h a) output
+      (omega (arith, all-sent, l))
 
   wrote-sent : {between output′ : List ℕ} {past n : ℕ} → Wrote output between 0 past (linkBytes i (length p) h a)
       → Wrote between output′ past n (take (length p - start) (drop start p)) → Wrote output output′ 0 n (sentBytes i p h a)
   wrote-sent x y = wrote-then x (rw (part-rest p start, f) at y)
 
-  step-written : {between output′ : List ℕ} {past n : ℕ} → size + (length p - start) ≤ length output → Wrote output between 0 past (linkBytes i (length p) h a)
+  step-written : {between output′ : List ℕ} {past n : ℕ} → size + (length p - start) ≤ length output
+      → Wrote output between 0 past (linkBytes i (length p) h a)
       → Wrote between output′ past n (take (length p - start) (drop start p))
-      → record { number = 0; kind = kindNumber (a .kind); length = n; output = output′; table = withContext t i (a .context) } ≡ sendStep t i p output h a
-  step-written l x y = delivered-written t (withContext t i (a .context)) (kindNumber (a .kind)) (wrote-sent x y) (omega (arith, all-sent, l))
+      → record { number = 0; kind = kindNumber (a .kind); length = n; output = output′; table = withContext t i (a .context) }
+      ≡ sendStep t i p output h a
+  step-written l x y = delivered-written t (withContext t i (a .context)) (kindNumber (a .kind)) (wrote-sent x y)
+      (omega (arith, all-sent, l))
 
   -- where the rest of the packet goes
   pub past-link : {between : List ℕ} {past : ℕ} → Wrote output between 0 past (linkBytes i (length p) h a) → past ≡ size
@@ -47,7 +51,10 @@ module _ (t : Table) (i : ℕ) (p output : List ℕ) (h : Header) (a : Step) (w 
     pub sendWith-refused : length output < size + (length p - start) → refused t 11 output ≡ sendWith t i p output h
     sendWith-refused l = step-refused l ∙ ap (λ (x : Step). sendStep t i p output h x) q
 
-    pub sendWith-written : (k : ℕ) {between output′ : List ℕ} {past n : ℕ} → k ≡ kindNumber (a .kind) → size + (length p - start) ≤ length output
-        → Wrote output between 0 past (linkBytes i (length p) h a) → Wrote between output′ past n (take (length p - start) (drop start p))
-        → record { number = 0; kind = k; length = n; output = output′; table = withContext t i (a .context) } ≡ sendWith t i p output h
+    pub sendWith-written : (k : ℕ) {between output′ : List ℕ} {past n : ℕ} → k ≡ kindNumber (a .kind)
+        → size + (length p - start) ≤ length output
+        → Wrote output between 0 past (linkBytes i (length p) h a)
+        → Wrote between output′ past n (take (length p - start) (drop start p))
+        → record { number = 0; kind = k; length = n; output = output′; table = withContext t i (a .context) }
+        ≡ sendWith t i p output h
     sendWith-written k z l x y = rw z (step-written l x y) ∙ ap (λ (x : Step). sendStep t i p output h x) q

@@ -19,7 +19,7 @@ use Rattle.compressor.specs.Send.{sendAt, sendPlain, sendTo, sendOf}
 use Rattle.settings.specs.Settings.{lengthAllowed}
 use Rattle.settings.specs.SettingsLaws.{lengthAllowed-true}
 use Rattle.compressor.specs.SendLaws.{On, placeOf-found}
-use Rattle.compressor.specs.Ready.{sendWith}
+use Rattle.compressor.specs.CanSend.{sendWith}
 
 module _ (t : Table) (p output : List ℕ) where
   pub way-unsound : soundOf t ≡ false → refused t 1 output ≡ sendOf t p output

@@ -7,7 +7,7 @@
 ghost use mathlib.Core.Path.{_≡_};
 ghost use Rattle.compressor.specs.Answer.{said};
 ghost use Rattle.compressor.specs.Send.{sendPlain, sendOf};
-ghost use Rattle.compressor.specs.Ready.{Ready, sendWith};
+ghost use Rattle.compressor.specs.CanSend.{CanSend, sendWith};
 use bytes::put::put_all;
 use compressor::answer::Answer;
 use compressor::answer::Outcome;
@@ -45,7 +45,7 @@ fn send_plain(t: Table, p: &[u8], out: &mut [u8]) -> Answer
 
 // A packet that goes out on context i.
 fn send_on(t: Table, i: usize, p: &[u8], h: Header, out: &mut [u8]) -> Answer
-    requires { ⌜ Ready t i (now p) h ⌝ }
+    requires { ⌜ CanSend t i (now p) h ⌝ }
     ensures { λ r. ⌜ said r (now (out .exit)) ≡ sendWith t i (now (p .entry)) (now (out .entry)) h ⌝ }
 {
     let context = t.contexts[i];

@@ -49,7 +49,8 @@ module _ {A : Type 0} (f : A → Bool) (l : List A) (count i : ℕ) (ok : Bool) 
   step-before h = rw (or-true (f (getD l i d)), and-true, from-below count i h)
 
   -- in the tail
-  step-tail : count ≤ i → i < length l → (ok && all f (drop i l)) ≡ (ok && (f (getD l i d) || false) && all f (drop (from count (i + 1)) l))
+  step-tail : count ≤ i → i < length l
+      → (ok && all f (drop i l)) ≡ (ok && (f (getD l i d) || false) && all f (drop (from count (i + 1)) l))
   step-tail h s = rw (or-false (f (getD l i d)), from-at count (i + 1) (omega arith)) (all-drop f l i ok d s)
 
   step-by : (z : Bool) → ltb i count ≡ z → i < length l
@@ -58,7 +59,8 @@ module _ {A : Type 0} (f : A → Bool) (l : List A) (count i : ℕ) (ok : Bool) 
   step-by false e s = step-tail (ltb-false i count e) s
 
   -- one place further
-  pub tail-step : i < length l → (ok && all f (drop (from count i) l)) ≡ (ok && (f (getD l i d) || ltb i count) && all f (drop (from count (i + 1)) l))
+  pub tail-step : i < length l
+      → (ok && all f (drop (from count i) l)) ≡ (ok && (f (getD l i d) || ltb i count) && all f (drop (from count (i + 1)) l))
   tail-step s = step-by (ltb i count) refl s
 
   -- past the last
@@ -90,7 +92,8 @@ module _ {A : Type 0} (f g : A → Bool) (l : List A) (count i : ℕ) (ok : Bool
   pub both-step : (d : A) → i < length l
       → (ok && both f g l count i) ≡ (ok && f (getD l i d) && (g (getD l i d) || ltb i count) && both f g l count (i + 1))
   both-step d s =
-      chain ok (all f (drop i l)) (all g (drop (from count i) l)) (f (getD l i d)) (g (getD l i d) || ltb i count) (all f (drop (i + 1) l))
+      chain ok (all f (drop i l)) (all g (drop (from count i) l)) (f (getD l i d)) (g (getD l i d) || ltb i count)
+      (all f (drop (i + 1) l))
       (all g (drop (from count (i + 1)) l)) (all-drop f l i true d s) (tail-step g l count i true d s)
 
   none-left : (x y : Bool) → x ≡ true → y ≡ true → (ok && (x && y)) ≡ ok

@@ -1,6 +1,7 @@
 ghost use mathlib.Core.Path.{_≡_};
 ghost use lib.ListN.{drop};
-ghost use Rattle.context.specs.Sound.{zeros, soundList, soundLink, zeroFlow, zeroIp, zeroRtp, zeroList, zeroDeltas, zeroLink, noFlow, noIp, noRtp};
+ghost use Rattle.context.specs.Sound.{zeros, soundList, soundLink, zeroFlow, zeroIp, zeroRtp, zeroList, zeroDeltas, zeroLink};
+ghost use Rattle.context.specs.Sound.{noFlow, noIp, noRtp};
 use context::kept::Deltas;
 use context::kept::Link;
 use packet::csrc::Csrc;

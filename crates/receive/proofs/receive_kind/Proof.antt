@@ -22,7 +22,10 @@ same-length-2 c = search needs
 
 returns-2 : tie.Need-returns-2
 unfolding receiveKind
-returns-2 c = rw (ne-eqb _ _ (c .before .before .before .before .before .if1 .left), eq-eqb _ _ (c .before .before .before .before .if2 .taken)) (c .before .before .receive-full .ensures)
+returns-2 c = rw (
+  ne-eqb _ _ (c .before .before .before .before .before .if1 .left),
+  eq-eqb _ _ (c .before .before .before .before .if2 .taken),
+) (c .before .before .receive-full .ensures)
 
 receive-compressed-requires : tie.Need-receive-compressed-requires
 receive-compressed-requires c κs = search needs
@@ -32,7 +35,10 @@ same-length-3 c = search needs
 
 returns-3 : tie.Need-returns-3
 unfolding receiveKind
-returns-3 c = rw (ne-eqb _ _ (c .before .before .before .before .before .if1 .left), ne-eqb _ _ (c .before .before .before .before .if2 .left)) (c .before .before .receive-compressed .ensures)
+returns-3 c = rw (
+  ne-eqb _ _ (c .before .before .before .before .before .if1 .left),
+  ne-eqb _ _ (c .before .before .before .before .if2 .left),
+) (c .before .before .receive-compressed .ensures)
 
 pub receive-kind-spec : {M : Type 1} → statement M
 receive-kind-spec =

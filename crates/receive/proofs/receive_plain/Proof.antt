@@ -17,7 +17,8 @@ same-length c = search needs
 
 returns-2 : tie.Need-returns-2
 returns-2 c = let a = c .before .before .before .before .before .before .before .args in
-    said-accepted (a .t) (a .t) (a .s .now) (a .out .now) _ _ (c .before .before .before .before .if1 .left) refl (wrote-front (c .before .before .put-all .ensures) (c .before .before .before .before .if1 .left))
+    said-accepted (a .t) (a .t) (a .s .now) (a .out .now) _ _ (c .before .before .before .before .if1 .left) refl
+    (wrote-front (c .before .before .put-all .ensures) (c .before .before .before .before .if1 .left))
 
 pub receive-plain-spec : {M : Type 1} → statement M
 receive-plain-spec = tie.close (tie.spec returns put-all-requires same-length returns-2)

@@ -39,8 +39,12 @@ loop-less c = omega arith
 
 loop-again : tie.Need-loop-again Inv-loop μ-loop
 loop-again c = let a = c .before .before .before .before .args in
-    let l = c .before .before .before .loop in
-    (l .inv .0, rw (count-more (a .t1) (l .i) noContext (omega arith)) (omega (arith, l .inv .1, c .records-of .ensures .0)), omega arith, omega arith)
+    let l = c .before .before .before .loop in (
+      l .inv .0,
+      rw (count-more (a .t1) (l .i) noContext (omega arith)) (omega (arith, l .inv .1, c .records-of .ensures .0)),
+      omega arith,
+      omega arith,
+    )
 
 returns : tie.Need-returns Inv-loop μ-loop
 returns c = let a = c .before .before .args in

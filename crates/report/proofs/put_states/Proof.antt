@@ -19,7 +19,9 @@ use Rattle.report.proofs.put_states.Statement.{statement}
 use Rattle.report.proofs.put_states.Tie as tie
 
 abbrev Inv-loop : tie.InvT-loop
-Inv-loop out₀ at contexts o₀ i₀ out o i = (length contexts ≡ 64) × (all soundDecompressor contexts ≡ true) × (i ≤ 64) × (at + length (recordsBytes (statesFrom 0 contexts)) ≤ length out₀) × Wrote out₀ out at o (recordsBytes (statesBefore contexts i))
+Inv-loop out₀ at contexts o₀ i₀ out o i = (length contexts ≡ 64) × (all soundDecompressor contexts ≡ true) × (i ≤ 64)
+    × (at + length (recordsBytes (statesFrom 0 contexts)) ≤ length out₀)
+    × Wrote out₀ out at o (recordsBytes (statesBefore contexts i))
 
 abbrev μ-loop : tie.MeasureT-loop
 μ-loop out₀ at contexts o₀ i₀ out o i = 64 - i
@@ -50,8 +52,13 @@ loop-less c = omega arith
 
 loop-again : tie.Need-loop-again Inv-loop μ-loop
 loop-again c = let l = c .before .before .before .before .before .before .loop in
-    let a = c .before .before .before .before .before .before .before .before .args in
-    (l .inv .0, l .inv .1, omega arith, l .inv .3, rw (records-more (a .t3) (l .i) noContext (omega arith)) (wrote-then (l .inv .4) (c .before .before .put-state .ensures)))
+    let a = c .before .before .before .before .before .before .before .before .args in (
+      l .inv .0,
+      l .inv .1,
+      omega arith,
+      l .inv .3,
+      rw (records-more (a .t3) (l .i) noContext (omega arith)) (wrote-then (l .inv .4) (c .before .before .put-state .ensures)),
+    )
 
 same-length : tie.Need-same-length Inv-loop μ-loop
 same-length c = wrote-length (c .before .loop .inv .4)

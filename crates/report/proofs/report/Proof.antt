@@ -23,7 +23,9 @@ count-records-requires c κs = search needs
 
 returns-2 : tie.Need-returns-2
 returns-2 c = let a = c .before .before .before .before .before .before .args in
-    report-none (a .t) (a .out .now) (sym (c .before .before .before .before .sound .ensures) ∙ not-false (c .before .before .before .before .sound .result) (c .before .before .before .if1 .left)) (c .before .count-records .result) (c .before .count-records .ensures .0) (c .if2 .taken)
+    report-none (a .t) (a .out .now) (sym (c .before .before .before .before .sound .ensures)
+    ∙ not-false (c .before .before .before .before .sound .result) (c .before .before .before .if1 .left))
+    (c .before .count-records .result) (c .before .count-records .ensures .0) (c .if2 .taken)
 
 mul-size : tie.Need-mul-size
 mul-size c = search needs
@@ -33,7 +35,10 @@ add-size c = search needs
 
 returns-3 : tie.Need-returns-3
 returns-3 c = let a = c .before .before .before .before .before .before .before .args in
-    report-noRoom (a .t) (a .out .now) (sym (c .before .before .before .before .before .sound .ensures) ∙ not-false (c .before .before .before .before .before .sound .result) (c .before .before .before .before .if1 .left)) (c .before .before .count-records .result) (c .before .before .count-records .ensures .0) (omega (arith, c .before .if2 .left)) (c .if3 .taken)
+    report-noRoom (a .t) (a .out .now) (sym (c .before .before .before .before .before .sound .ensures)
+    ∙ not-false (c .before .before .before .before .before .sound .result) (c .before .before .before .before .if1 .left))
+    (c .before .before .count-records .result) (c .before .before .count-records .ensures .0) (omega (arith, c .before .if2 .left))
+    (c .if3 .taken)
 
 cast-put-count : tie.Need-cast-put-count
 cast-put-count c = search needs
@@ -42,19 +47,37 @@ put-count-requires : tie.Need-put-count-requires
 put-count-requires c κs = search needs
 
 put-states-requires : tie.Need-put-states-requires
-put-states-requires c κs = let a = c .before .before .before .before .before .before .before .before .before .before .before .before .args in
-    let s = sym (c .before .before .before .before .before .before .before .before .before .before .sound .ensures) ∙ not-false (c .before .before .before .before .before .before .before .before .before .before .sound .result) (c .before .before .before .before .before .before .before .before .before .if1 .left) in
-    (soundOf-true (a .t) s .contexts, omega (arith, c .before .before .before .before .before .before .before .count-records .ensures .0, length-recordsBytes (statesFrom 0 (a .t .contexts)), c .before .before .before .before .before .if3 .left, c .before .before .before .put-count .ensures .0))
+put-states-requires c κs = let a =
+    c .before .before .before .before .before .before .before .before .before .before .before .before .args in
+    let s = sym (c .before .before .before .before .before .before .before .before .before .before .sound .ensures)
+    ∙ not-false (c .before .before .before .before .before .before .before .before .before .before .sound .result)
+    (c .before .before .before .before .before .before .before .before .before .if1 .left) in (
+      soundOf-true (a .t) s .contexts,
+      omega (
+        arith,
+        c .before .before .before .before .before .before .before .count-records .ensures .0,
+        length-recordsBytes (statesFrom 0 (a .t .contexts)),
+        c .before .before .before .before .before .if3 .left,
+        c .before .before .before .put-count .ensures .0,
+      ),
+    )
 
 same-length : tie.Need-same-length
 same-length c = search needs
 
 returns-4 : tie.Need-returns-4
 unfolding csBytes
-returns-4 c = let a = c .before .before .before .before .before .before .before .before .before .before .before .before .before .before .before .args in
+returns-4 c = let a =
+    c .before .before .before .before .before .before .before .before .before .before .before .before .before .before .before .args
+    in
     let s = sym (c .before .before .before .before .before .before .before .before .before .before .before .before .before .sound .ensures) ∙ not-false (c .before .before .before .before .before .before .before .before .before .before .before .before .before .sound .result) (c .before .before .before .before .before .before .before .before .before .before .before .before .if1 .left) in
     let e = c .before .before .before .before .before .before .before .before .before .before .count-records .ensures .0 in
-    report-accepted (a .t) (a .out .now) s (c .before .before .before .before .before .before .before .before .before .before .count-records .result) e (omega (arith, c .before .before .before .before .before .before .before .before .before .if2 .left)) _ _ (c .before .before .before .before .before .before .before .before .if3 .left) (wrote-then (rw e at (c .before .before .before .before .before .before .put-count .ensures .1)) (c .before .before .put-states .ensures))
+    report-accepted (a .t) (a .out .now) s
+    (c .before .before .before .before .before .before .before .before .before .before .count-records .result) e
+    (omega (arith, c .before .before .before .before .before .before .before .before .before .if2 .left)) _ _
+    (c .before .before .before .before .before .before .before .before .if3 .left)
+    (wrote-then (rw e at (c .before .before .before .before .before .before .put-count .ensures .1))
+    (c .before .before .put-states .ensures))
 
 pub report-spec : {M : Type 1} → statement M
 report-spec =

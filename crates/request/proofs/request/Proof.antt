@@ -1,6 +1,6 @@
 use borrow.Author.Tests.{not-true, not-false}
 use Rattle.compressor.specs.Request.{requestTable}
-use Rattle.compressor.specs.ReadyLaws.{sound-repeats, sound-most}
+use Rattle.compressor.specs.CanSendLaws.{sound-repeats, sound-most}
 use Rattle.compressor.specs.TableLaws.{soundOf-true}
 use mathlib.Core.Path.{sym, _∙_}
 use Rattle.packet.specs.declared.refusal.Verdict.the-variants.{Accepted, Refused}
@@ -25,8 +25,13 @@ enum-told c = search needs
 
 act-on-all-requires : tie.Need-act-on-all-requires
 act-on-all-requires c κs = let a = c .before .before .before .before .before .before .args in
-    let s = soundOf-true (a .t) (sym (c .before .before .before .before .sound .ensures) ∙ not-false _ (c .before .before .before .if1 .left)) in
-    (sound-repeats (a .t) s, sound-most (a .t) s, requestJudged-good (a .t .settings .contexts) (a .s .now) (sym (c .before .before .judge-request .ensures) ∙ c .enum-told .given .1))
+    let s = soundOf-true (a .t) (sym (c .before .before .before .before .sound .ensures)
+    ∙ not-false _ (c .before .before .before .if1 .left)) in (
+      sound-repeats (a .t) s,
+      sound-most (a .t) s,
+      requestJudged-good (a .t .settings .contexts) (a .s .now)
+          (sym (c .before .before .judge-request .ensures) ∙ c .enum-told .given .1),
+    )
 
 enum-known-why : tie.Need-enum-known-why
 enum-known-why c = search needs
@@ -34,12 +39,14 @@ enum-known-why c = search needs
 returns-2 : tie.Need-returns-2
 returns-2 c = let a = c .before .before .before .before .before .before .before .args in
     rw (c .act-on-all .ensures)
-    (requestOf-judged (a .t) (a .s .now) Accepted (sym (c .before .before .before .before .before .sound .ensures) ∙ not-false _ (c .before .before .before .before .if1 .left))
+    (requestOf-judged (a .t) (a .s .now) Accepted (sym (c .before .before .before .before .before .sound .ensures)
+    ∙ not-false _ (c .before .before .before .before .if1 .left))
     (sym (c .before .before .before .judge-request .ensures) ∙ c .before .enum-told .given .1))
 
 returns-3 : tie.Need-returns-3
 returns-3 c = let a = c .before .before .before .before .before .before .before .args in
-    requestOf-judged (a .t) (a .s .now) (Refused (c .before .why .given .0 .0)) (sym (c .before .before .before .before .before .sound .ensures) ∙ not-false _ (c .before .before .before .before .if1 .left))
+    requestOf-judged (a .t) (a .s .now) (Refused (c .before .why .given .0 .0))
+    (sym (c .before .before .before .before .before .sound .ensures) ∙ not-false _ (c .before .before .before .before .if1 .left))
     (sym (c .before .before .before .judge-request .ensures) ∙ c .before .why .given .1)
 
 pub request-spec : {M : Type 1} → statement M

@@ -27,7 +27,8 @@ part-tail-end : tie.Need-part-tail-end
 part-tail-end c = search needs
 
 link-size-requires : tie.Need-link-size-requires
-link-size-requires c κs = rw (c .before .before .step-on .ensures) (c .before .before .before .before .before .before .pre .writable)
+link-size-requires c κs = rw (c .before .before .step-on .ensures)
+    (c .before .before .before .before .before .before .pre .writable)
 
 add-size : tie.Need-add-size
 add-size c = search needs
@@ -39,7 +40,8 @@ returns c = let s = c .before .before .before .before .before .before .before .b
     let f = c .before .before .before .header-size in
     let l = c .before .link-size in
     sendWith-refused (a .t1) (a .i) (a .p .now) (a .out .now) (a .h) (x .result) (rw (x .ensures) (s .pre .writable))
-    (l .result) (f .result) (l .ensures .0) (f .ensures) (x .ensures) (omega (arith, length-rest (a .p .now) (f .result), c .if1 .taken))
+    (l .result) (f .result) (l .ensures .0) (f .ensures) (x .ensures)
+    (omega (arith, length-rest (a .p .now) (f .result), c .if1 .taken))
 
 cast-put-link : tie.Need-cast-put-link
 cast-put-link c = search needs
@@ -53,7 +55,8 @@ put-link-requires c κs = let s = c .before .before .before .before .before .bef
     (rw (x .ensures) (s .pre .writable), omega (arith, c .before .before .link-size .ensures .0))
 
 put-all-requires : tie.Need-put-all-requires
-put-all-requires c κs = let s = c .before .before .before .before .before .before .before .before .before .before .before .before .before in
+put-all-requires c κs = let s =
+    c .before .before .before .before .before .before .before .before .before .before .before .before .before in
     let a = s .args in
     let x = c .before .before .before .before .before .before .before .before .before .step-on in
     let f = c .before .before .before .before .before .before .before .before .header-size in
@@ -75,15 +78,22 @@ same-length : tie.Need-same-length
 same-length c = search needs
 
 returns-2 : tie.Need-returns-2
-returns-2 c = let s = c .before .before .before .before .before .before .before .before .before .before .before .before .before .before .before .before .before .before in
+returns-2 c = let s =
+    c .before .before .before .before .before .before .before .before .before .before .before .before .before .before .before .before .before .before in
     let a = s .args in
     let x = c .before .before .before .before .before .before .before .before .before .before .before .before .before .before .step-on in
-    let f = c .before .before .before .before .before .before .before .before .before .before .before .before .before .header-size in
+    let f = c .before .before .before .before .before .before .before .before .before .before .before .before .before .header-size
+    in
     let l = c .before .before .before .before .before .before .before .before .before .before .before .link-size in
     sendWith-written (a .t1) (a .i) (a .p .now) (a .out .now) (a .h) (x .result) (rw (x .ensures) (s .pre .writable))
     (l .result) (f .result) (l .ensures .0) (f .ensures) (x .ensures) (c .kind-number .result) (c .kind-number .ensures)
-    (omega (arith, length-rest (a .p .now) (f .result), c .before .before .before .before .before .before .before .before .before .before .if1 .left))
-    (c .before .before .before .before .before .before .before .before .put-link .ensures) (c .before .before .before .before .put-all .ensures)
+    (omega (
+      arith,
+      length-rest (a .p .now) (f .result),
+      c .before .before .before .before .before .before .before .before .before .before .if1 .left,
+    ))
+    (c .before .before .before .before .before .before .before .before .put-link .ensures)
+    (c .before .before .before .before .put-all .ensures)
 
 pub send-on-spec : {M : Type 1} → statement M
 send-on-spec =

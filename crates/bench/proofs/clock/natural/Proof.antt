@@ -16,7 +16,10 @@ positive (pos n) e = tt
 positive (negsuc n) e = subst T (sym e) tt
 
 cast-result : tie.Need-cast-result
-cast-result c = (positive (toZ w64 (ofZ w64 (c .before .args .n))) (c .if1 .taken), fits-natAbs {w = w64} {w′ = w64} tt (sfits-toZ (fits-ofZ (c .before .fits .n))))
+cast-result c = (
+  positive (toZ w64 (ofZ w64 (c .before .args .n))) (c .if1 .taken),
+  fits-natAbs {w = w64} {w′ = w64} tt (sfits-toZ (fits-ofZ (c .before .fits .n))),
+)
 
 returns : tie.Need-returns
 returns c = search needs

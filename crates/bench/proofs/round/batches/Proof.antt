@@ -7,7 +7,8 @@ use Rattle.bench.proofs.round.batches.Tie as tie
 
 abbrev Inv-loop : tie.InvT-loop
 Inv-loop streams packets₀ links₀ kinds₀ lengths₀ rebuilt₀ s₀ i₀ packets links kinds lengths rebuilt s i =
-    (i ≤ 500) × (length packets ≡ length packets₀) × (length links ≡ length links₀) × (length kinds ≡ length kinds₀) × (length lengths ≡ length lengths₀) × (length rebuilt ≡ length rebuilt₀)
+    (i ≤ 500) × (length packets ≡ length packets₀) × (length links ≡ length links₀) × (length kinds ≡ length kinds₀)
+    × (length lengths ≡ length lengths₀) × (length rebuilt ≡ length rebuilt₀)
 
 abbrev μ-loop : tie.MeasureT-loop
 μ-loop streams packets₀ links₀ kinds₀ lengths₀ rebuilt₀ s₀ i₀ packets links kinds lengths rebuilt s i = 500 - i

@@ -6,7 +6,8 @@ use Rattle.bench_packets.proofs.tally.count_batch.Statement.{statement}
 use Rattle.bench_packets.proofs.tally.count_batch.Tie as tie
 
 abbrev Inv-loop : tie.InvT-loop
-Inv-loop packets links kinds lengths rebuilt u₀ i₀ u i = (i ≤ 64) × (length packets ≡ 12800) × (length links ≡ 12800) × (length kinds ≡ 64) × (length lengths ≡ 64) × (length rebuilt ≡ 12800)
+Inv-loop packets links kinds lengths rebuilt u₀ i₀ u i = (i ≤ 64) × (length packets ≡ 12800) × (length links ≡ 12800)
+    × (length kinds ≡ 64) × (length lengths ≡ 64) × (length rebuilt ≡ 12800)
 
 abbrev μ-loop : tie.MeasureT-loop
 μ-loop packets links kinds lengths rebuilt u₀ i₀ u i = 64 - i

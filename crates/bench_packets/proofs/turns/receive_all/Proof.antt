@@ -6,7 +6,8 @@ use Rattle.bench_packets.proofs.turns.receive_all.Statement.{statement}
 use Rattle.bench_packets.proofs.turns.receive_all.Tie as tie
 
 abbrev Inv-loop : tie.InvT-loop
-Inv-loop links kinds lengths rebuilt₀ table₀ i₀ rebuilt table i = (i ≤ 64) × (length links ≡ 12800) × (length kinds ≡ 64) × (length lengths ≡ 64) × (length rebuilt₀ ≡ 12800) × (length rebuilt ≡ 12800)
+Inv-loop links kinds lengths rebuilt₀ table₀ i₀ rebuilt table i = (i ≤ 64) × (length links ≡ 12800) × (length kinds ≡ 64)
+    × (length lengths ≡ 64) × (length rebuilt₀ ≡ 12800) × (length rebuilt ≡ 12800)
 
 abbrev μ-loop : tie.MeasureT-loop
 μ-loop links kinds lengths rebuilt₀ table₀ i₀ rebuilt table i = 64 - i

@@ -8,7 +8,9 @@ use Rattle.bench_packets.proofs.turns.send_all.Statement.{statement}
 use Rattle.bench_packets.proofs.turns.send_all.Tie as tie
 
 abbrev Inv-loop : tie.InvT-loop
-Inv-loop packets links₀ kinds₀ lengths₀ table₀ i₀ links kinds lengths table i = (i ≤ 64) × (length packets ≡ 12800) × (length links₀ ≡ 12800) × (length links ≡ 12800) × (length kinds₀ ≡ 64) × (length kinds ≡ 64) × (length lengths₀ ≡ 64) × (length lengths ≡ 64)
+Inv-loop packets links₀ kinds₀ lengths₀ table₀ i₀ links kinds lengths table i = (i ≤ 64) × (length packets ≡ 12800)
+    × (length links₀ ≡ 12800) × (length links ≡ 12800) × (length kinds₀ ≡ 64) × (length kinds ≡ 64) × (length lengths₀ ≡ 64)
+    × (length lengths ≡ 64)
 
 abbrev μ-loop : tie.MeasureT-loop
 μ-loop packets links₀ kinds₀ lengths₀ table₀ i₀ links kinds lengths table i = 64 - i
@@ -74,7 +76,16 @@ loop-less : tie.Need-loop-less Inv-loop μ-loop
 loop-less c = search needs
 
 loop-again : tie.Need-loop-again Inv-loop μ-loop
-loop-again c = (omega arith, omega arith, omega arith, omega arith, omega arith, simp length-set (omega arith), omega arith, simp length-set (omega arith))
+loop-again c = (
+  omega arith,
+  omega arith,
+  omega arith,
+  omega arith,
+  omega arith,
+  simp length-set (omega arith),
+  omega arith,
+  simp length-set (omega arith),
+)
 
 same-length : tie.Need-same-length Inv-loop μ-loop
 same-length c = search needs

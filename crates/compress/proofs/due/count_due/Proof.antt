@@ -29,7 +29,16 @@ count-requires-8 c κs = search needs
 
 returns : tie.Need-returns
 unfolding dueAfter
-returns c = rw (c .count8 .ensures, c .before .count7 .ensures, c .before .before .count6 .ensures, c .before .before .before .count5 .ensures, c .before .before .before .before .count4 .ensures, c .before .before .before .before .before .count3 .ensures, c .before .before .before .before .before .before .count2 .ensures, c .before .before .before .before .before .before .before .count .ensures)
+returns c = rw (
+  c .count8 .ensures,
+  c .before .count7 .ensures,
+  c .before .before .count6 .ensures,
+  c .before .before .before .count5 .ensures,
+  c .before .before .before .before .count4 .ensures,
+  c .before .before .before .before .before .count3 .ensures,
+  c .before .before .before .before .before .before .count2 .ensures,
+  c .before .before .before .before .before .before .before .count .ensures,
+)
 
 pub count-due-spec : {M : Type 1} → statement M
 count-due-spec =

@@ -21,7 +21,13 @@ same-list-requires c κs = search needs
 
 returns : tie.Need-returns
 unfolding judged adoptsId adoptsTimestamp offPattern
-returns c = rw (c .before .before .before .before .before .before .before .before .before .before .same-list .ensures, c .before .before .before .before .before .before .before .before .before .before .before .before .before .has-code32 .ensures, c .before .before .before .before .before .before .before .before .before .before .before .before .before .before .difference32 .ensures, c .before .before .before .before .before .before .before .before .before .before .before .before .before .before .before .difference162 .ensures, c .before .before .before .before .before .before .before .before .before .before .before .before .before .before .before .before .difference16 .ensures)
+returns c = rw (
+  c .before .before .before .before .before .before .before .before .before .before .same-list .ensures,
+  c .before .before .before .before .before .before .before .before .before .before .before .before .before .has-code32 .ensures,
+  c .before .before .before .before .before .before .before .before .before .before .before .before .before .before .difference32 .ensures,
+  c .before .before .before .before .before .before .before .before .before .before .before .before .before .before .before .difference162 .ensures,
+  c .before .before .before .before .before .before .before .before .before .before .before .before .before .before .before .before .difference16 .ensures,
+)
 
 pub judge-spec : {M : Type 1} → statement M
 judge-spec =

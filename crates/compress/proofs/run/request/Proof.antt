@@ -20,7 +20,8 @@ returns c = rw (c .enum-told .given .1)
 
 returns-2 : tie.Need-returns-2
 unfolding requested
-returns-2 c = let a = c .before .before .before .args in c .start-unless-due .ensures ∙ sym (ap (λ (s : Usage). requestedBy s (a .n) (a .c)) (c .before .enum-told2 .given .1))
+returns-2 c = let a = c .before .before .before .args in c .start-unless-due .ensures
+    ∙ sym (ap (λ (s : Usage). requestedBy s (a .n) (a .c)) (c .before .enum-told2 .given .1))
 
 pub request-spec : {M : Type 1} → statement M
 request-spec =

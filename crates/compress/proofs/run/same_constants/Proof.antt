@@ -14,7 +14,11 @@ same-bit-requires-3 c κs = search needs
 
 returns : tie.Need-returns
 unfolding sameConstants
-returns c = rw (c .before .before .before .before .before .before .same-bit3 .ensures, c .before .before .before .before .before .before .before .before .same-bit2 .ensures, c .before .before .before .before .before .before .before .before .before .same-bit .ensures)
+returns c = rw (
+  c .before .before .before .before .before .before .same-bit3 .ensures,
+  c .before .before .before .before .before .before .before .before .same-bit2 .ensures,
+  c .before .before .before .before .before .before .before .before .before .same-bit .ensures,
+)
 
 pub same-constants-spec : {M : Type 1} → statement M
 same-constants-spec =

@@ -29,7 +29,16 @@ list-if-requires c κs = search needs
 
 returns : tie.Need-returns
 unfolding partsOf
-returns c = rw (c .list-if .ensures, c .before .sent-if322 .ensures, c .before .before .sent-if164 .ensures, c .before .before .before .sent-if163 .ensures, c .before .before .before .before .sent-if8 .ensures, c .before .before .before .before .before .sent-if32 .ensures, c .before .before .before .before .before .before .sent-if162 .ensures, c .before .before .before .before .before .before .before .sent-if16 .ensures)
+returns c = rw (
+  c .list-if .ensures,
+  c .before .sent-if322 .ensures,
+  c .before .before .sent-if164 .ensures,
+  c .before .before .before .sent-if163 .ensures,
+  c .before .before .before .before .sent-if8 .ensures,
+  c .before .before .before .before .before .sent-if32 .ensures,
+  c .before .before .before .before .before .before .sent-if162 .ensures,
+  c .before .before .before .before .before .before .before .sent-if16 .ensures,
+)
 
 pub carry-spec : {M : Type 1} → statement M
 carry-spec =

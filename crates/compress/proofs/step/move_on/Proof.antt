@@ -14,7 +14,11 @@ next-sequence-requires c κs = search needs
 
 returns : tie.Need-returns
 unfolding moved
-returns c = rw (c .before .before .before .before .before .next-sequence .ensures, c .before .before .before .before .before .before .keep-deltas .ensures, c .before .before .before .before .before .before .before .count-due .ensures)
+returns c = rw (
+  c .before .before .before .before .before .next-sequence .ensures,
+  c .before .before .before .before .before .before .keep-deltas .ensures,
+  c .before .before .before .before .before .before .before .count-due .ensures,
+)
 
 pub move-on-spec : {M : Type 1} → statement M
 move-on-spec =

@@ -29,7 +29,16 @@ carry-requires c κs = search needs
 
 returns : tie.Need-returns
 unfolding stepOf sentWith moved
-returns c = rw (c .before .carry .ensures, c .before .before .before .move-on .ensures, c .before .before .before .before .choose-kind .ensures, c .before .before .before .before .before .any-due .ensures, c .before .before .before .before .before .before .due-now .ensures, c .before .before .before .before .before .before .before .before .judge .ensures, c .before .before .before .before .before .before .before .before .before .reset-deltas .ensures, c .before .before .before .before .before .before .before .before .before .before .begin .ensures)
+returns c = rw (
+  c .before .carry .ensures,
+  c .before .before .before .move-on .ensures,
+  c .before .before .before .before .choose-kind .ensures,
+  c .before .before .before .before .before .any-due .ensures,
+  c .before .before .before .before .before .before .due-now .ensures,
+  c .before .before .before .before .before .before .before .before .judge .ensures,
+  c .before .before .before .before .before .before .before .before .before .reset-deltas .ensures,
+  c .before .before .before .before .before .before .before .before .before .before .begin .ensures,
+)
 
 pub next-packet-spec : {M : Type 1} → statement M
 next-packet-spec =

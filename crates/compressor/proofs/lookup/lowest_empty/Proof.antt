@@ -37,7 +37,8 @@ returns : tie.Need-returns Inv-loop μ-loop
 returns c =
     let a = c .before .before .before .before .before .args in
     let l = c .before .before .before .before .loop in
-    sym (l .inv .3 ∙ lowest-next isEmpty (a .t1 .contexts) (l .i) (a .t1 .settings .contexts) (omega arith) ∙ rw (← c .before .is-empty .ensures, c .if1 .taken))
+    sym (l .inv .3 ∙ lowest-next isEmpty (a .t1 .contexts) (l .i) (a .t1 .settings .contexts) (omega arith)
+    ∙ rw (← c .before .is-empty .ensures, c .if1 .taken))
 
 add-i : tie.Need-add-i Inv-loop μ-loop
 add-i c = omega arith
@@ -48,8 +49,14 @@ loop-less c = omega arith
 loop-again : tie.Need-loop-again Inv-loop μ-loop
 loop-again c =
     let a = c .before .before .before .before .before .args in
-    let l = c .before .before .before .before .loop in
-    (l .inv .0, l .inv .1, omega arith, l .inv .3 ∙ lowest-next isEmpty (a .t1 .contexts) (l .i) (a .t1 .settings .contexts) (omega arith) ∙ rw (← c .before .is-empty .ensures, c .if1 .left))
+    let l = c .before .before .before .before .loop in (
+      l .inv .0,
+      l .inv .1,
+      omega arith,
+      l .inv .3
+          ∙ lowest-next isEmpty (a .t1 .contexts) (l .i) (a .t1 .settings .contexts) (omega arith)
+          ∙ rw (← c .before .is-empty .ensures, c .if1 .left),
+    )
 
 returns-2 : tie.Need-returns-2 Inv-loop μ-loop
 returns-2 c =

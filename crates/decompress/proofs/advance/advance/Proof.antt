@@ -17,7 +17,12 @@ hold-deltas-requires c κs = search needs
 
 returns : tie.Need-returns
 unfolding advanced
-returns c = rw (c .before .hold-deltas .ensures, c .before .before .replace-list .ensures, c .before .before .before .move-rtp .ensures, c .before .before .before .before .move-ip .ensures)
+returns c = rw (
+  c .before .hold-deltas .ensures,
+  c .before .before .replace-list .ensures,
+  c .before .before .before .move-rtp .ensures,
+  c .before .before .before .before .move-ip .ensures,
+)
 
 pub advance-spec : {M : Type 1} → statement M
 advance-spec =

@@ -17,7 +17,8 @@ enum-told c = search needs
 advance-whole-requires : tie.Need-advance-whole-requires
 advance-whole-requires c κs =
     let a = c .before .before .before .before .args in
-    gapVerdict-accepted (a .n) (c .before .before .before .gap-of .result) (sym (c .before .before .judge-gap .ensures) ∙ c .enum-told .given .1)
+    gapVerdict-accepted (a .n) (c .before .before .before .gap-of .result)
+    (sym (c .before .before .judge-gap .ensures) ∙ c .enum-told .given .1)
 
 enum-known-why : tie.Need-enum-known-why
 enum-known-why c = search needs

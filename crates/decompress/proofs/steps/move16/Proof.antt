@@ -20,7 +20,12 @@ or-kept16-requires-2 c κs = search needs
 
 returns : tie.Need-returns
 unfolding movedOn
-returns c = rw (c .or-kept162 .ensures, c .before .sum16 .ensures, c .before .before .or-kept16 .ensures, c .before .before .before .steps16 .ensures)
+returns c = rw (
+  c .or-kept162 .ensures,
+  c .before .sum16 .ensures,
+  c .before .before .or-kept16 .ensures,
+  c .before .before .before .steps16 .ensures,
+)
 
 pub move16-spec : {M : Type 1} → statement M
 move16-spec =

@@ -20,7 +20,12 @@ or-kept32-requires-2 c κs = search needs
 
 returns : tie.Need-returns
 unfolding movedOn
-returns c = rw (c .or-kept322 .ensures, c .before .sum32 .ensures, c .before .before .or-kept32 .ensures, c .before .before .before .steps32 .ensures)
+returns c = rw (
+  c .or-kept322 .ensures,
+  c .before .sum32 .ensures,
+  c .before .before .or-kept32 .ensures,
+  c .before .before .before .steps32 .ensures,
+)
 
 pub move32-spec : {M : Type 1} → statement M
 move32-spec =

@@ -38,15 +38,35 @@ none16-requires-3 c κs = search needs
 
 returns : tie.Need-returns
 unfolding nextDelta16 next
-returns c = rw (c .there16 .ensures, ← c .before .before .before .before .before .before .is-accepted .ensures, c .before .before .before .before .before .if1 .taken, ← c .before .before .before .before .delta16 .ensures, c .before .before .value .given .1)
+returns c = rw (
+  c .there16 .ensures,
+  ← c .before .before .before .before .before .before .is-accepted .ensures,
+  c .before .before .before .before .before .if1 .taken,
+  ← c .before .before .before .before .delta16 .ensures,
+  c .before .before .value .given .1,
+)
 
 returns-2 : tie.Need-returns-2
 unfolding nextDelta16 next
-returns-2 c = rw (c .none16 .ensures, c .before .stop .ensures, ← c .before .before .before .before .before .before .is-accepted .ensures, c .before .before .before .before .before .if1 .taken, ← c .before .before .before .before .delta16 .ensures, c .before .before .enum-told .given .1)
+returns-2 c = rw (
+  c .none16 .ensures,
+  c .before .stop .ensures,
+  ← c .before .before .before .before .before .before .is-accepted .ensures,
+  c .before .before .before .before .before .if1 .taken,
+  ← c .before .before .before .before .delta16 .ensures,
+  c .before .before .enum-told .given .1,
+)
 
 returns-3 : tie.Need-returns-3
 unfolding nextDelta16 next
-returns-3 c = rw (c .none162 .ensures, c .before .stop2 .ensures, ← c .before .before .before .before .before .before .is-accepted .ensures, c .before .before .before .before .before .if1 .taken, ← c .before .before .before .before .delta16 .ensures, c .before .before .enum-told2 .given .1)
+returns-3 c = rw (
+  c .none162 .ensures,
+  c .before .stop2 .ensures,
+  ← c .before .before .before .before .before .before .is-accepted .ensures,
+  c .before .before .before .before .before .if1 .taken,
+  ← c .before .before .before .before .delta16 .ensures,
+  c .before .before .enum-told2 .given .1,
+)
 
 returns-4 : tie.Need-returns-4
 unfolding nextDelta16 next

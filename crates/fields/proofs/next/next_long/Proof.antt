@@ -29,11 +29,24 @@ none32-requires-2 c κs = search needs
 
 returns : tie.Need-returns
 unfolding nextLong next
-returns c = rw (c .there32 .ensures, ← c .before .before .before .before .before .before .is-accepted .ensures, c .before .before .before .before .before .if1 .taken, ← c .before .before .before .before .long .ensures, c .before .before .value .given .1)
+returns c = rw (
+  c .there32 .ensures,
+  ← c .before .before .before .before .before .before .is-accepted .ensures,
+  c .before .before .before .before .before .if1 .taken,
+  ← c .before .before .before .before .long .ensures,
+  c .before .before .value .given .1,
+)
 
 returns-2 : tie.Need-returns-2
 unfolding nextLong next
-returns-2 c = rw (c .none32 .ensures, c .before .stop .ensures, ← c .before .before .before .before .before .before .is-accepted .ensures, c .before .before .before .before .before .if1 .taken, ← c .before .before .before .before .long .ensures, c .before .before .enum-told .given .1)
+returns-2 c = rw (
+  c .none32 .ensures,
+  c .before .stop .ensures,
+  ← c .before .before .before .before .before .before .is-accepted .ensures,
+  c .before .before .before .before .before .if1 .taken,
+  ← c .before .before .before .before .long .ensures,
+  c .before .before .enum-told .given .1,
+)
 
 returns-3 : tie.Need-returns-3
 unfolding nextLong next

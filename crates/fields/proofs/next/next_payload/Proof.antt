@@ -19,7 +19,14 @@ there8-requires c κs = search needs
 
 returns : tie.Need-returns
 unfolding nextPayload readPayload next
-returns c = rw (c .there8 .ensures, ← c .before .before .before .before .before .before .before .is-accepted .ensures, c .before .before .before .before .before .before .if1 .taken, ← c .before .before .before .before .before .byte .ensures, c .before .before .before .value .given .1, lt-ltb (c .before .before .before .value .given .0 .0) 128 (omega (arith, c .before .if2 .taken)))
+returns c = rw (
+  c .there8 .ensures,
+  ← c .before .before .before .before .before .before .before .is-accepted .ensures,
+  c .before .before .before .before .before .before .if1 .taken,
+  ← c .before .before .before .before .before .byte .ensures,
+  c .before .before .before .value .given .1,
+  lt-ltb (c .before .before .before .value .given .0 .0) 128 (omega (arith, c .before .if2 .taken)),
+)
 
 stop-requires : tie.Need-stop-requires
 stop-requires c κs = search needs
@@ -41,11 +48,26 @@ none8-requires-3 c κs = search needs
 
 returns-2 : tie.Need-returns-2
 unfolding nextPayload readPayload next
-returns-2 c = rw (c .none8 .ensures, c .before .stop .ensures, ← c .before .before .before .before .before .before .before .before .is-accepted .ensures, c .before .before .before .before .before .before .before .if1 .taken, ← c .before .before .before .before .before .before .byte .ensures, c .before .before .before .before .value .given .1, le-ltb (c .before .before .before .before .value .given .0 .0) 128 (omega (arith, c .before .before .if2 .left)))
+returns-2 c = rw (
+  c .none8 .ensures,
+  c .before .stop .ensures,
+  ← c .before .before .before .before .before .before .before .before .is-accepted .ensures,
+  c .before .before .before .before .before .before .before .if1 .taken,
+  ← c .before .before .before .before .before .before .byte .ensures,
+  c .before .before .before .before .value .given .1,
+  le-ltb (c .before .before .before .before .value .given .0 .0) 128 (omega (arith, c .before .before .if2 .left)),
+)
 
 returns-3 : tie.Need-returns-3
 unfolding nextPayload readPayload next
-returns-3 c = rw (c .none82 .ensures, c .before .stop2 .ensures, ← c .before .before .before .before .before .before .is-accepted .ensures, c .before .before .before .before .before .if1 .taken, ← c .before .before .before .before .byte .ensures, c .before .before .enum-told .given .1)
+returns-3 c = rw (
+  c .none82 .ensures,
+  c .before .stop2 .ensures,
+  ← c .before .before .before .before .before .before .is-accepted .ensures,
+  c .before .before .before .before .before .if1 .taken,
+  ← c .before .before .before .before .byte .ensures,
+  c .before .before .enum-told .given .1,
+)
 
 returns-4 : tie.Need-returns-4
 unfolding nextPayload readPayload next

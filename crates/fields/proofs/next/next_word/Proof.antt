@@ -29,11 +29,24 @@ none16-requires-2 c κs = search needs
 
 returns : tie.Need-returns
 unfolding nextWord next
-returns c = rw (c .there16 .ensures, ← c .before .before .before .before .before .before .is-accepted .ensures, c .before .before .before .before .before .if1 .taken, ← c .before .before .before .before .word .ensures, c .before .before .value .given .1)
+returns c = rw (
+  c .there16 .ensures,
+  ← c .before .before .before .before .before .before .is-accepted .ensures,
+  c .before .before .before .before .before .if1 .taken,
+  ← c .before .before .before .before .word .ensures,
+  c .before .before .value .given .1,
+)
 
 returns-2 : tie.Need-returns-2
 unfolding nextWord next
-returns-2 c = rw (c .none16 .ensures, c .before .stop .ensures, ← c .before .before .before .before .before .before .is-accepted .ensures, c .before .before .before .before .before .if1 .taken, ← c .before .before .before .before .word .ensures, c .before .before .enum-told .given .1)
+returns-2 c = rw (
+  c .none16 .ensures,
+  c .before .stop .ensures,
+  ← c .before .before .before .before .before .before .is-accepted .ensures,
+  c .before .before .before .before .before .if1 .taken,
+  ← c .before .before .before .before .word .ensures,
+  c .before .before .enum-told .given .1,
+)
 
 returns-3 : tie.Need-returns-3
 unfolding nextWord next

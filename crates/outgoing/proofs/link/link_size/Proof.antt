@@ -31,11 +31,19 @@ returns c = rw (c .before .enum-told .given .1) (c .header-size .ensures, omega 
 
 returns-2 : tie.Need-returns-2
 unfolding linkSize
-returns-2 c = rw (c .before .enum-told2 .given .1) (rw (c .before .before .before .before .sends-checksum .ensures) at (c .cu-size .ensures .0), omega arith)
+returns-2 c = rw (c .before .enum-told2 .given .1) (
+  rw (c .before .before .before .before .sends-checksum .ensures) at
+      (c .cu-size .ensures .0),
+  omega arith,
+)
 
 returns-3 : tie.Need-returns-3
 unfolding linkSize
-returns-3 c = rw (c .before .enum-told3 .given .1) (rw (c .before .before .before .before .sends-checksum .ensures) at (c .cr-size .ensures .0), omega arith)
+returns-3 c = rw (c .before .enum-told3 .given .1) (
+  rw (c .before .before .before .before .sends-checksum .ensures) at
+      (c .cr-size .ensures .0),
+  omega arith,
+)
 
 pub link-size-spec : {M : Type 1} → statement M
 link-size-spec =

@@ -14,21 +14,29 @@ enum-told c = search needs
 
 put-fh-requires : tie.Need-put-fh-requires
 unfolding linkSize
-put-fh-requires c κs = let p = rw (c .before .enum-told .given .1) at (c .before .before .before .before .before .before .before .before .pre) in (range-narrow (p .0 .header), p .0 .generation, omega (arith, p .1))
+put-fh-requires c κs = let p = rw (c .before .enum-told .given .1) at
+    (c .before .before .before .before .before .before .before .before .pre) in
+    (range-narrow (p .0 .header), p .0 .generation, omega (arith, p .1))
 
 enum-told-2 : tie.Need-enum-told-2
 enum-told-2 c = search needs
 
 put-cu-requires : tie.Need-put-cu-requires
 unfolding linkSize
-put-cu-requires c κs = let p = rw (c .before .enum-told2 .given .1) at (c .before .before .before .before .before .before .before .before .pre) in rw (c .before .before .before .before .before .sends-checksum .ensures) (p .0 .sequence, omega (arith, p .0 .list, p .0 .header .csrc .count), omega (arith, p .1))
+put-cu-requires c κs = let p = rw (c .before .enum-told2 .given .1) at
+    (c .before .before .before .before .before .before .before .before .pre) in
+    rw (c .before .before .before .before .before .sends-checksum .ensures)
+    (p .0 .sequence, omega (arith, p .0 .list, p .0 .header .csrc .count), omega (arith, p .1))
 
 enum-told-3 : tie.Need-enum-told-3
 enum-told-3 c = search needs
 
 put-cr-requires : tie.Need-put-cr-requires
 unfolding linkSize
-put-cr-requires c κs = let p = rw (c .before .enum-told3 .given .1) at (c .before .before .before .before .before .before .before .before .pre) in rw (c .before .before .before .before .before .sends-checksum .ensures) (p .0 .sequence, omega (arith, p .0 .list, p .0 .header .csrc .count), omega (arith, p .1))
+put-cr-requires c κs = let p = rw (c .before .enum-told3 .given .1) at
+    (c .before .before .before .before .before .before .before .before .pre) in
+    rw (c .before .before .before .before .before .sends-checksum .ensures)
+    (p .0 .sequence, omega (arith, p .0 .list, p .0 .header .csrc .count), omega (arith, p .1))
 
 same-length : tie.Need-same-length
 same-length c = search needs
@@ -42,14 +50,18 @@ same-length-2 c = search needs
 
 returns-2 : tie.Need-returns-2
 unfolding linkBytes
-returns-2 c = rw (c .before .before .before .before .enum-told2 .given .1) (rw (c .before .before .before .before .before .before .before .before .sends-checksum .ensures) at (c .before .before .put-cu .ensures))
+returns-2 c = rw (c .before .before .before .before .enum-told2 .given .1)
+    (rw (c .before .before .before .before .before .before .before .before .sends-checksum .ensures) at
+    (c .before .before .put-cu .ensures))
 
 same-length-3 : tie.Need-same-length-3
 same-length-3 c = search needs
 
 returns-3 : tie.Need-returns-3
 unfolding linkBytes
-returns-3 c = rw (c .before .before .before .before .enum-told3 .given .1) (rw (c .before .before .before .before .before .before .before .before .sends-checksum .ensures) at (c .before .before .put-cr .ensures))
+returns-3 c = rw (c .before .before .before .before .enum-told3 .given .1)
+    (rw (c .before .before .before .before .before .before .before .before .sends-checksum .ensures) at
+    (c .before .before .put-cr .ensures))
 
 pub put-link-spec : {M : Type 1} → statement M
 put-link-spec =

@@ -18,10 +18,12 @@ next-packet-requires : tie.Need-next-packet-requires
 next-packet-requires c κs = search needs
 
 returns : tie.Need-returns
-returns c = let a = c .before .before .before .args in c .first-packet .ensures ∙ sym (stepOn-empty (a .n) (a .h) (a .c) (c .before .enum-told .given .1))
+returns c = let a = c .before .before .before .args in c .first-packet .ensures
+    ∙ sym (stepOn-empty (a .n) (a .h) (a .c) (c .before .enum-told .given .1))
 
 returns-2 : tie.Need-returns-2
-returns-2 c = let a = c .before .before .before .args in c .next-packet .ensures ∙ sym (stepOn-live (a .n) (a .h) (a .c) (c .before .enum-told2 .given .1))
+returns-2 c = let a = c .before .before .before .args in c .next-packet .ensures
+    ∙ sym (stepOn-live (a .n) (a .h) (a .c) (c .before .enum-told2 .given .1))
 
 pub step-on-spec : {M : Type 1} → statement M
 step-on-spec =

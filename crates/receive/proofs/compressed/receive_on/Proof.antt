@@ -23,7 +23,9 @@ same-length c = search needs
 
 returns : tie.Need-returns
 returns c = let a = c .before .before .before .before .before .before .before .before .before .args in
-    takes-liveUdp (a .n) (a .c) _ _ (a .s .now) (a .out .now) (a .old) (a .h) (a .kind) (c .before .before .before .before .before .enum-told2 .given .1) (eq-eqb _ _ (c .before .before .before .before .if1 .taken)) (c .before .before .receive-udp .ensures)
+    takes-liveUdp (a .n) (a .c) _ _ (a .s .now) (a .out .now) (a .old) (a .h) (a .kind)
+    (c .before .before .before .before .before .enum-told2 .given .1) (eq-eqb _ _ (c .before .before .before .before .if1 .taken))
+    (c .before .before .receive-udp .ensures)
 
 receive-rtp-requires : tie.Need-receive-rtp-requires
 receive-rtp-requires c κs = search needs
@@ -36,18 +38,22 @@ refuse-not-live-requires-2 c κs = search needs
 
 returns-2 : tie.Need-returns-2
 returns-2 c = let a = c .before .before .before .before .before .args in
-    rw (c .refuse-not-live .ensures) (takes-notLive (a .old) (a .n) (a .kind) (a .c) (a .h) (a .s .now) (a .out .now) (ap notLive (c .before .enum-told .given .1)))
+    rw (c .refuse-not-live .ensures) (takes-notLive (a .old) (a .n) (a .kind) (a .c) (a .h) (a .s .now) (a .out .now)
+    (ap notLive (c .before .enum-told .given .1)))
 
 same-length-2 : tie.Need-same-length-2
 same-length-2 c = search needs
 
 returns-3 : tie.Need-returns-3
 returns-3 c = let a = c .before .before .before .before .before .before .before .before .before .args in
-    takes-liveRtp (a .n) (a .c) _ _ (a .s .now) (a .out .now) (a .old) (a .h) (a .kind) (c .before .before .before .before .before .enum-told2 .given .1) (ne-eqb _ _ (c .before .before .before .before .if1 .left)) (c .before .before .receive-rtp .ensures)
+    takes-liveRtp (a .n) (a .c) _ _ (a .s .now) (a .out .now) (a .old) (a .h) (a .kind)
+    (c .before .before .before .before .before .enum-told2 .given .1) (ne-eqb _ _ (c .before .before .before .before .if1 .left))
+    (c .before .before .receive-rtp .ensures)
 
 returns-4 : tie.Need-returns-4
 returns-4 c = let a = c .before .before .before .before .before .args in
-    rw (c .refuse-not-live2 .ensures) (takes-notLive (a .old) (a .n) (a .kind) (a .c) (a .h) (a .s .now) (a .out .now) (ap notLive (c .before .enum-told3 .given .1)))
+    rw (c .refuse-not-live2 .ensures) (takes-notLive (a .old) (a .n) (a .kind) (a .c) (a .h) (a .s .now) (a .out .now)
+    (ap notLive (c .before .enum-told3 .given .1)))
 
 pub receive-on-spec : {M : Type 1} → statement M
 receive-on-spec =

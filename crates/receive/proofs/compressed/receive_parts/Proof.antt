@@ -9,15 +9,20 @@ apply-requires c κs = search needs
 
 settle-read-requires : tie.Need-settle-read-requires
 settle-read-requires c κs = let p = c .before .before .before .before .before .before .pre in
-    let a = c .before .before .before .before .before .before .args in
-    (rw (c .before .apply .ensures) (applied-narrow (a .n) (a .q) (a .c) (a .x .parts) (p .2) (a .x .parts .checksum) (p .1) (p .3) (p .4)), p .5, p .6)
+    let a = c .before .before .before .before .before .before .args in (
+      rw (c .before .apply .ensures) (applied-narrow (a .n) (a .q) (a .c) (a .x .parts) (p .2) (a .x .parts .checksum) (p .1) (p .3)
+          (p .4)),
+      p .5,
+      p .6,
+    )
 
 same-length : tie.Need-same-length
 same-length c = search needs
 
 returns : tie.Need-returns
 returns c = let a = c .before .before .before .before .before .before .before .before .before .args in
-    takes-parts (a .n) (a .c) _ _ (a .s .now) (a .out .now) (a .q) (a .x) (rw (c .before .before .before .before .apply .ensures) at (c .before .before .settle-read .ensures))
+    takes-parts (a .n) (a .c) _ _ (a .s .now) (a .out .now) (a .q) (a .x)
+    (rw (c .before .before .before .before .apply .ensures) at (c .before .before .settle-read .ensures))
 
 pub receive-parts-spec : {M : Type 1} → statement M
 receive-parts-spec = tie.close (tie.spec apply-requires settle-read-requires same-length returns)

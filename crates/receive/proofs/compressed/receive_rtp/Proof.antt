@@ -31,7 +31,8 @@ same-length c = search needs
 returns : tie.Need-returns
 returns c = let a = c .before .before .before .before .before .before .before .before .before .args in
     takes-rtp (a .n) (a .c) _ _ (a .s .now) (a .out .now) (a .h)
-    (rw (c .before .before .before .before .read-cr .ensures, c .before .before .before .before .before .reads-checksum .ensures) at (c .before .before .receive-parts .ensures))
+    (rw (c .before .before .before .before .read-cr .ensures, c .before .before .before .before .before .reads-checksum .ensures) at
+    (c .before .before .receive-parts .ensures))
 
 pub receive-rtp-spec : {M : Type 1} → statement M
 receive-rtp-spec = tie.close (tie.spec reads-checksum-requires read-cr-requires receive-parts-requires same-length returns)

@@ -23,7 +23,11 @@ settle-read-requires c κs = let p = c .before .before .before .before .before .
     let h = a .h in
     let k = checksumRead (a .c) in
     let w = wholeOf s (h .place) (h .flags) k in
-    rw (c .before .apply-whole .ensures, c .before .before .before .before .before .read-cu-whole .ensures, c .before .before .before .before .before .before .reads-checksum .ensures) (
+    rw (
+      c .before .apply-whole .ensures,
+      c .before .before .before .before .before .read-cu-whole .ensures,
+      c .before .before .before .before .before .before .reads-checksum .ensures,
+    ) (
       whole-narrow (a .n) (h .flags .low) (a .c) (w .parts) (p .1) (w .parts .checksum) (p .0 .link) (p .0 .sound)
           (wholeOf-sound s (h .place) (h .flags) k) (w .header) (wholeOf-header s (h .place) (h .flags) k),
       wholeOf-within s (h .place) (h .flags) k (p .0 .within),
@@ -34,9 +38,12 @@ same-length : tie.Need-same-length
 same-length c = search needs
 
 returns : tie.Need-returns
-returns c = let a = c .before .before .before .before .before .before .before .before .before .before .before .before .before .args in
-    takes-whole (a .n) (a .c) _ _ (a .s .now) (a .out .now) (a .h) (c .before .before .before .before .before .before .before .before .read-cu-whole .result)
-    (rw (c .before .before .before .before .before .before .before .before .before .reads-checksum .ensures) at (c .before .before .before .before .before .before .before .before .read-cu-whole .ensures))
+returns c = let a = c .before .before .before .before .before .before .before .before .before .before .before .before .before .args
+    in
+    takes-whole (a .n) (a .c) _ _ (a .s .now) (a .out .now) (a .h)
+    (c .before .before .before .before .before .before .before .before .read-cu-whole .result)
+    (rw (c .before .before .before .before .before .before .before .before .before .reads-checksum .ensures) at
+    (c .before .before .before .before .before .before .before .before .read-cu-whole .ensures))
     (rw (c .before .before .before .before .apply-whole .ensures) at (c .before .before .settle-read .ensures))
 
 pub receive-whole-spec : {M : Type 1} → statement M

@@ -22,7 +22,10 @@ same-length c = search needs
 
 returns : tie.Need-returns
 unfolding receiveFull
-returns c = rw (← c .before .before .before .before .before .before .judge-fh .ensures, c .before .before .before .before .enum-told .given .1) (c .before .before .accept-full .ensures)
+returns c = rw (
+  ← c .before .before .before .before .before .before .judge-fh .ensures,
+  c .before .before .before .before .enum-told .given .1,
+) (c .before .before .accept-full .ensures)
 
 returns-2 : tie.Need-returns-2
 unfolding receiveFull

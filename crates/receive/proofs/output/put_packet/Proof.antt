@@ -18,7 +18,8 @@ same-length c = search needs
 
 returns : tie.Need-returns
 returns c = let e = c .before .before .before .before .before .before .before .before .before .before .pre .1 in
-    rw e at (wrote-then (c .before .before .before .before .before .before .put-printed .ensures .1) (c .before .before .put-all .ensures))
+    rw e at (wrote-then (c .before .before .before .before .before .before .put-printed .ensures .1)
+    (c .before .before .put-all .ensures))
 
 pub put-packet-spec : {M : Type 1} → statement M
 put-packet-spec =

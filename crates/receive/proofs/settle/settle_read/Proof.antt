@@ -27,7 +27,8 @@ same-length c = search needs
 
 returns : tie.Need-returns
 returns c = let a = c .before .before .before .before .before .before .before .before .before .args in
-    λ n. rw (c .before .before .before .before .before .enum-told .given .1) (rw (part-rest (a .s .now) (a .p .cursor .at)) at (c .before .before .settle .ensures n))
+    λ n. rw (c .before .before .before .before .before .enum-told .given .1)
+    (rw (part-rest (a .s .now) (a .p .cursor .at)) at (c .before .before .settle .ensures n))
 
 returns-2 : tie.Need-returns-2
 returns-2 c = let a = c .before .before .before .before .before .args in

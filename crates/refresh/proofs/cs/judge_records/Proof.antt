@@ -28,7 +28,12 @@ enum-known-why c = search needs
 
 returns : tie.Need-returns Inv-loop μ-loop
 returns c = let l = c .before .before .before .before .before .loop in
-    rw (l .inv .1, recordsJudged-more _ _ (l .i) _ (c .before .before .before .before .loop-test .taken), ← c .before .before .before .judge-record .ensures, c .before .why .given .1)
+    rw (
+      l .inv .1,
+      recordsJudged-more _ _ (l .i) _ (c .before .before .before .before .loop-test .taken),
+      ← c .before .before .before .judge-record .ensures,
+      c .before .why .given .1,
+    )
 
 add-i : tie.Need-add-i Inv-loop μ-loop
 add-i c = search needs

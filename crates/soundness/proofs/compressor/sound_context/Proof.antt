@@ -19,11 +19,13 @@ used-sound-requires c κs = search needs
 
 returns : tie.Need-returns
 unfolding soundCompressor soundCompressorBy
-returns c = let a = c .before .before .before .args in c .unused-sound .ensures ∙ sym (ap (λ (s : Usage). soundCompressorBy s (a .n) (a .c)) (c .before .enum-told .given .1))
+returns c = let a = c .before .before .before .args in c .unused-sound .ensures
+    ∙ sym (ap (λ (s : Usage). soundCompressorBy s (a .n) (a .c)) (c .before .enum-told .given .1))
 
 returns-2 : tie.Need-returns-2
 unfolding soundCompressor soundCompressorBy
-returns-2 c = let a = c .before .before .before .args in c .used-sound .ensures ∙ sym (ap (λ (s : Usage). soundCompressorBy s (a .n) (a .c)) (c .before .enum-told2 .given .1))
+returns-2 c = let a = c .before .before .before .args in c .used-sound .ensures
+    ∙ sym (ap (λ (s : Usage). soundCompressorBy s (a .n) (a .c)) (c .before .enum-told2 .given .1))
 
 pub sound-context-spec : {M : Type 1} → statement M
 sound-context-spec =

@@ -29,7 +29,16 @@ zero-link-requires c κs = search needs
 
 returns : tie.Need-returns
 unfolding unusedSound
-returns c = rw (c .before .zero-link .ensures, c .before .before .zero-due .ensures, c .before .before .before .zero-earlier .ensures, c .before .before .before .before .zero-deltas .ensures, c .before .before .before .before .before .zero-list .ensures, c .before .before .before .before .before .before .zero-rtp .ensures, c .before .before .before .before .before .before .before .zero-ip .ensures, c .before .before .before .before .before .before .before .before .zero-flow .ensures)
+returns c = rw (
+  c .before .zero-link .ensures,
+  c .before .before .zero-due .ensures,
+  c .before .before .before .zero-earlier .ensures,
+  c .before .before .before .before .zero-deltas .ensures,
+  c .before .before .before .before .before .zero-list .ensures,
+  c .before .before .before .before .before .before .zero-rtp .ensures,
+  c .before .before .before .before .before .before .before .zero-ip .ensures,
+  c .before .before .before .before .before .before .before .before .zero-flow .ensures,
+)
 
 pub unused-sound-spec : {M : Type 1} → statement M
 unused-sound-spec =

@@ -17,7 +17,12 @@ sound-link-requires c κs = search needs
 
 returns : tie.Need-returns
 unfolding usedSound
-returns c = rw (c .before .before .before .sound-link .ensures, c .before .before .before .before .sound-due .ensures, c .before .before .before .before .before .has-code32 .ensures, c .before .before .before .before .before .before .sound-list .ensures)
+returns c = rw (
+  c .before .before .before .sound-link .ensures,
+  c .before .before .before .before .sound-due .ensures,
+  c .before .before .before .before .before .has-code32 .ensures,
+  c .before .before .before .before .before .before .sound-list .ensures,
+)
 
 pub used-sound-spec : {M : Type 1} → statement M
 used-sound-spec =

@@ -14,7 +14,11 @@ sound-link-requires c κs = search needs
 
 returns : tie.Need-returns
 unfolding filledSound
-returns c = rw (c .before .before .sound-link .ensures, c .before .before .before .has-code32 .ensures, c .before .before .before .before .sound-list .ensures)
+returns c = rw (
+  c .before .before .sound-link .ensures,
+  c .before .before .before .has-code32 .ensures,
+  c .before .before .before .before .sound-list .ensures,
+)
 
 pub filled-sound-spec : {M : Type 1} → statement M
 filled-sound-spec =

@@ -23,7 +23,14 @@ zero-link-requires c κs = search needs
 
 returns : tie.Need-returns
 unfolding unfilledSound
-returns c = rw (c .before .before .zero-link .ensures, c .before .before .before .zero-deltas .ensures, c .before .before .before .before .zero-list .ensures, c .before .before .before .before .before .zero-rtp .ensures, c .before .before .before .before .before .before .zero-ip .ensures, c .before .before .before .before .before .before .before .zero-flow .ensures)
+returns c = rw (
+  c .before .before .zero-link .ensures,
+  c .before .before .before .zero-deltas .ensures,
+  c .before .before .before .before .zero-list .ensures,
+  c .before .before .before .before .before .zero-rtp .ensures,
+  c .before .before .before .before .before .before .zero-ip .ensures,
+  c .before .before .before .before .before .before .before .zero-flow .ensures,
+)
 
 pub unfilled-sound-spec : {M : Type 1} → statement M
 unfilled-sound-spec =

@@ -32,8 +32,11 @@ loop-less c = omega arith
 
 loop-again : tie.Need-loop-again Inv-loop μ-loop
 loop-again c =
-    let l = c .before .loop in
-    (search needs, l .inv .1 ∙ tail-step isZero (c .before .before .args .t1) (c .before .before .args .count) (l .i) (l .ok) 0 (omega arith))
+    let l = c .before .loop in (
+      search needs,
+      l .inv .1
+          ∙ tail-step isZero (c .before .before .args .t1) (c .before .before .args .count) (l .i) (l .ok) 0 (omega arith),
+    )
 
 returns : tie.Need-returns Inv-loop μ-loop
 returns c =

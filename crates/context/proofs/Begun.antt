@@ -30,7 +30,15 @@ started-full n s = omega arith
 
 pub started-held : (n : ℕ) (s : CompressorContext) → Held s → Held (started n s)
 unfolding started
-started-held n s h = record { id = h .id; sequence = h .sequence; timestamp = h .timestamp; did = h .did; dts = h .dts; link = h .link }
+started-held n s h = record {
+  id = h .id;
+  sequence = h .sequence;
+  timestamp = h .timestamp;
+  did = h .did;
+  dts = h .dts;
+  link =
+      h .link;
+}
 
 pub started-kept : (n : ℕ) (c : CompressorContext) → Kept (started n c) c
 unfolding started
@@ -52,7 +60,8 @@ begun-held n h s k = cond-both (λ (c : CompressorContext). Held c) (sameConstan
 
 begun-kept : (n : ℕ) (h : Header) (s : CompressorContext) → Kept (begun n h s) s
 unfolding begun
-begun-kept n h s = cond-both (λ (c : CompressorContext). Kept c s) (sameConstants h s) _ _ (record { status = refl; flow = refl; link = refl }) (started-kept n s)
+begun-kept n h s = cond-both (λ (c : CompressorContext). Kept c s) (sameConstants h s) _ _
+    (record { status = refl; flow = refl; link = refl }) (started-kept n s)
 
 ---- reset
 

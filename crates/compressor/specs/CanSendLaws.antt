@@ -18,7 +18,7 @@ use Rattle.context.proofs.AllLaws.{all-at}
 use Rattle.compressor.specs.Table.{Sound}
 use Rattle.compressor.specs.TableLaws.{soundOf-true}
 use Rattle.compressor.specs.SendLaws.{On}
-use Rattle.compressor.specs.Ready.{Ready}
+use Rattle.compressor.specs.CanSend.{CanSend}
 use Rattle.outgoing.specs.StepLaws.{writable-stepOn}
 
 ---- Sound
@@ -33,14 +33,14 @@ module _ (t : Table) (s : Sound t) where
   pub sound-contextAt : length (t .contexts) ≡ 64 → (i : ℕ) → i < 64 → soundCompressor (t .settings .repeats) (contextAt t i) ≡ true
   sound-contextAt n i h = all-at (soundCompressor (t .settings .repeats)) (t .contexts) i noContext (omega (arith, n)) (s .contexts)
 
----- Ready
+---- CanSend
 
 module _ (t : Table) (p : List ℕ) (i : ℕ) (n : length (t .contexts) ≡ 64) (bytes : AllBytes p) (o : On t p i) where
   among : i < 64
   among = omega (arith, o .place .among, sound-most t (soundOf-true t (o .sound)))
 
-  pub ready-on : Ready t i p (headerOf p)
-  ready-on =
+  pub canSend-on : CanSend t i p (headerOf p)
+  canSend-on =
       let s = soundOf-true t (o .sound) in
       record {
         repeats = sound-repeats t s;

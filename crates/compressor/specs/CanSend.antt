@@ -1,5 +1,5 @@
 -- Iarwennol. What a send on a context relies on when it writes.
--- Used by the contract of send_on; ReadyLaws has that every packet on a context of a sound table is so.
+-- Used by the contract of send_on; CanSendLaws has that every packet on a context of a sound table is so.
 use Prim.Native.Nat.{ℕ, _≤_, _<_}
 use mathlib.Core.List.{List}
 use lib.ListN.{length}
@@ -12,7 +12,7 @@ use Rattle.compressor.specs.Table.{contextAt}
 use Rattle.compressor.specs.Send.{stepOn, sendStep}
 
 -- a packet p with the header h that can go out on context i
-pub record Ready (t : Table) (i : ℕ) (p : List ℕ) (h : Header) : Type 0 where
+pub record CanSend (t : Table) (i : ℕ) (p : List ℕ) (h : Header) : Type 0 where
   pub repeats : t .settings .repeats ≤ 14
   pub place : i < 64
   pub whole : headerSize h ≤ length p
