@@ -70,7 +70,10 @@ unfolding csBytes
 returns-4 c = let a =
     c .before .before .before .before .before .before .before .before .before .before .before .before .before .before .before .args
     in
-    let s = sym (c .before .before .before .before .before .before .before .before .before .before .before .before .before .sound .ensures) ∙ not-false (c .before .before .before .before .before .before .before .before .before .before .before .before .before .sound .result) (c .before .before .before .before .before .before .before .before .before .before .before .before .if1 .left) in
+    let s = sym (c .before .before .before .before .before .before .before .before .before .before .before .before
+    .before .sound .ensures) ∙ not-false (c .before .before .before .before .before .before .before .before .before
+    .before .before .before .before .sound .result) (c .before .before .before .before .before .before .before
+    .before .before .before .before .before .if1 .left) in
     let e = c .before .before .before .before .before .before .before .before .before .before .count-records .ensures .0 in
     report-accepted (a .t) (a .out .now) s
     (c .before .before .before .before .before .before .before .before .before .before .count-records .result) e

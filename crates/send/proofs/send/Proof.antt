@@ -72,7 +72,8 @@ send-on-requires c κs = let a =
     (allBytes-elements (a .p .now)
     (λ j. omega (
       arith,
-      c .before .before .before .before .before .before .before .before .before .before .before .before .before .shared-slice-known .given j,
+      c .before .before .before .before .before .before .before .before .before .before .before .before
+          .before .shared-slice-known .given j,
     )))
     (way-on (a .t) (a .p .now) (a .out .now)
     (sym (c .before .before .before .before .before .before .before .before .before .before .before .sound .ensures)
@@ -95,11 +96,15 @@ same-length-2 c = search needs
 
 returns-4 : tie.Need-returns-4
 returns-4 c = let a =
-    c .before .before .before .before .before .before .before .before .before .before .before .before .before .before .before .before .before .args in
+    c .before .before .before .before .before .before .before .before .before .before .before .before .before .before
+    .before .before .before .args in
     (rw (c .before .before .before .before .before .before .before .before .before .read-header .ensures) at
     (c .before .before .send-on .ensures)) ∙
     way-at (a .t) (a .p .now) (a .out .now)
-    (sym (c .before .before .before .before .before .before .before .before .before .before .before .before .before .before .sound .ensures) ∙ not-false _ (c .before .before .before .before .before .before .before .before .before .before .before .before .before .if1 .left)) (not-false (lengthAllowed (length (a .p .now))) (c .before .before .before .before .before .before .before .before .before .before .before .before .if2 .left))
+    (sym (c .before .before .before .before .before .before .before .before .before .before .before .before .before
+    .before .sound .ensures) ∙ not-false _ (c .before .before .before .before .before .before .before .before
+    .before .before .before .before .before .if1 .left)) (not-false (lengthAllowed (length (a .p .now)))
+    (c .before .before .before .before .before .before .before .before .before .before .before .before .if2 .left))
     (sym (c .before .before .before .before .before .before .before .before .before .before .before .is-compressible .ensures)
     ∙ not-false _ (c .before .before .before .before .before .before .before .before .before .before .if3 .left))
     (c .before .before .before .before .before .i .given .0 .0)
@@ -112,7 +117,8 @@ same-length-3 c = search needs
 
 returns-5 : tie.Need-returns-5
 returns-5 c = let a =
-    c .before .before .before .before .before .before .before .before .before .before .before .before .before .before .before .before .args in
+    c .before .before .before .before .before .before .before .before .before .before .before .before .before .before
+    .before .before .args in
     c .before .before .send-plain2 .ensures ∙
     way-nowhere (a .t) (a .p .now) (a .out .now)
     (sym (c .before .before .before .before .before .before .before .before .before .before .before .before .before .sound .ensures)

@@ -79,9 +79,11 @@ same-length c = search needs
 
 returns-2 : tie.Need-returns-2
 returns-2 c = let s =
-    c .before .before .before .before .before .before .before .before .before .before .before .before .before .before .before .before .before .before in
+    c .before .before .before .before .before .before .before .before .before .before .before .before .before .before
+    .before .before .before .before in
     let a = s .args in
-    let x = c .before .before .before .before .before .before .before .before .before .before .before .before .before .before .step-on in
+    let x = c .before .before .before .before .before .before .before .before .before .before .before .before .before
+    .before .step-on in
     let f = c .before .before .before .before .before .before .before .before .before .before .before .before .before .header-size
     in
     let l = c .before .before .before .before .before .before .before .before .before .before .before .link-size in

@@ -12,11 +12,13 @@ settle-requires c κs = search needs
 
 same-length : tie.Need-same-length
 same-length c =
-    c .before .before .before .before .before .before .before .before .before .before .before .before .before .before .before .before .before .packets .given
+    c .before .before .before .before .before .before .before .before .before .before .before .before .before .before
+    .before .before .before .packets .given
 
 same-length-2 : tie.Need-same-length-2
 same-length-2 c = c .before .links2 .given
-    ∙ c .before .before .before .before .before .before .before .before .before .before .before .before .before .before .before .links .given
+    ∙ c .before .before .before .before .before .before .before .before .before .before .before .before .before .before
+    .before .links .given
 
 same-length-3 : tie.Need-same-length-3
 same-length-3 c = search needs

@@ -24,9 +24,12 @@ unfolding judged adoptsId adoptsTimestamp offPattern
 returns c = rw (
   c .before .before .before .before .before .before .before .before .before .before .same-list .ensures,
   c .before .before .before .before .before .before .before .before .before .before .before .before .before .has-code32 .ensures,
-  c .before .before .before .before .before .before .before .before .before .before .before .before .before .before .difference32 .ensures,
-  c .before .before .before .before .before .before .before .before .before .before .before .before .before .before .before .difference162 .ensures,
-  c .before .before .before .before .before .before .before .before .before .before .before .before .before .before .before .before .difference16 .ensures,
+  c .before .before .before .before .before .before .before .before .before .before .before .before .before
+      .before .difference32 .ensures,
+  c .before .before .before .before .before .before .before .before .before .before .before .before .before .before
+      .before .difference162 .ensures,
+  c .before .before .before .before .before .before .before .before .before .before .before .before .before .before
+      .before .before .difference16 .ensures,
 )
 
 pub judge-spec : {M : Type 1} → statement M
