@@ -1,17 +1,13 @@
 ghost use Prim.Native.Nat.{_≤_, _<_};
 ghost use lib.ListN.{length};
-use crate::line::Tables;
+use crate::line::State;
 use crate::line::run_line;
 use crate::line::unopened;
 use libc::STDIN_FILENO;
 use libc::STDOUT_FILENO;
+use script_text::room::front;
+use script_text::room::least;
 use script_text::text::put;
-
-// What the whole lines of a buffer leave: the tables, and where the line begins that is not whole.
-struct Lines {
-    tables: Tables,
-    start: usize,
-}
 
 // The next line end from a place on, or the end of what the buffer is filled with.
 fn line_end(buf: &[u8], at: usize, filled: usize) -> usize
@@ -28,69 +24,21 @@ fn line_end(buf: &[u8], at: usize, filled: usize) -> usize
     i
 }
 
-// Answers are written in one go; what is left has room for the longest answer.
-fn flush_if_full(text: &[u8], at: usize) -> usize
-    requires { ⌜ at ≤ length (now text) ⌝ }
-    ensures { λ r. ⌜ r ≤ length (now (text .entry)) ⌝ }
-{
-    if 40000 < at {
-        io::write_all(STDOUT_FILENO, &text[..at]);
+// The line end after an answer. Answers go out together; what is left of the text then has room for the longest one.
+fn end_answer(text: &mut [u8], at: usize) -> usize {
+    let past = put(text, at, b'\n');
+    if 40000 < past {
+        io::write_all(STDOUT_FILENO, front(text, past));
         return 0;
     }
-    at
-}
-
-// The line end after an answer.
-fn end_answer(text: &mut [u8], at: usize) -> usize
-    requires { ⌜ at ≤ length (now text) ⌝ }
-    ensures { λ r. ⌜ r ≤ length (now (text .exit)) ⌝ }
-{
-    let past = put(text, at, b'\n');
-    flush_if_full(text, past)
-}
-
-// Every whole line of what the buffer is filled with.
-fn run_lines(
-    t: Tables,
-    buf: &[u8],
-    filled: usize,
-    input: &mut [u8],
-    output: &mut [u8],
-    text: &mut [u8],
-) -> Lines
-    requires { ⌜ filled ≤ length (now buf) ⌝ }
-    ensures { λ r. ⌜ r .start ≤ filled ⌝ }
-{
-    let mut tables = t;
-    let mut start = 0;
-    let mut at = 0;
-    let mut end = line_end(buf, 0, filled);
-    while end < filled {
-        let past = end + 1;
-        let r = run_line(tables, &buf[start..end], input, output, text, at);
-        tables = r.tables;
-        at = end_answer(text, r.at);
-        start = past;
-        end = line_end(buf, start, filled);
-    }
-    io::write_all(STDOUT_FILENO, &text[..at]);
-    Lines {
-        tables: tables,
-        start: start,
-    }
-}
-
-fn least(a: usize, b: usize) -> usize
-    ensures { λ r. ⌜ (r ≤ a) × (r ≤ b) ⌝ }
-{
-    if a < b { a } else { b }
+    past
 }
 
 // Moves what begins at start to the front. A line longer than any call keeps its first bytes only, so that there is always
 // room to read on.
 fn keep(buf: &mut [u8], start: usize, end: usize) -> usize
     requires { ⌜ (start ≤ end) × (end ≤ length (now buf)) ⌝ }
-    ensures { λ r. ⌜ (r ≤ length (now (buf .exit))) × (r ≤ 20000) ⌝ }
+    ensures { λ r. ⌜ r ≤ length (now (buf .exit)) ⌝ }
 {
     let n = least(end - start, 20000);
     let mut i = 0;
@@ -104,22 +52,22 @@ fn keep(buf: &mut [u8], start: usize, end: usize) -> usize
 // The last line may have no line end: it gets one.
 fn end_last(buf: &mut [u8], kept: usize) -> usize
     requires { ⌜ kept ≤ length (now buf) ⌝ }
-    ensures { λ r. ⌜ (kept ≤ r) × (r ≤ length (now (buf .exit))) ⌝ }
+    ensures { λ r. ⌜ r ≤ length (now (buf .exit)) ⌝ }
 {
     if kept == 0 {
-        return kept;
+        return 0;
     }
     if kept < buf.len() {
         buf[kept] = b'\n';
         return kept + 1;
     }
-    kept
+    0
 }
 
-// One read after what is kept; answers how far the buffer is filled then, no further where the input has ended.
+// One read after what is kept; answers how far the buffer is filled then, 0 where the input has ended.
 fn read_more(buf: &mut [u8], kept: usize) -> usize
     requires { ⌜ kept ≤ length (now buf) ⌝ }
-    ensures { λ r. ⌜ (kept ≤ r) × (r ≤ length (now (buf .exit))) ⌝ }
+    ensures { λ r. ⌜ r ≤ length (now (buf .exit)) ⌝ }
 {
     let got = libc::read(STDIN_FILENO, &mut buf[kept..]);
     let n = io::count(got, &buf[kept..]);
@@ -129,27 +77,54 @@ fn read_more(buf: &mut [u8], kept: usize) -> usize
     kept + n
 }
 
+// The answers so far go out, and the input is read on after what begins at start.
+fn read_on(buf: &mut [u8], start: usize, filled: usize, text: &[u8], at: usize) -> usize
+    requires { ⌜ (start ≤ filled) × (filled ≤ length (now buf)) ⌝ }
+    ensures { λ r. ⌜ r ≤ length (now (buf .exit)) ⌝ }
+{
+    io::write_all(STDOUT_FILENO, front(text, at));
+    let kept = keep(buf, start, filled);
+    read_more(buf, kept)
+}
+
+// The next line is run; where none is whole, the input is read on. Nothing is filled where it has ended.
+fn turn(s: State, buf: &mut [u8], text: &mut [u8]) -> State
+    requires { ⌜ (s .start ≤ s .filled) × (s .filled ≤ length (now buf)) ⌝ }
+    ensures { λ r. ⌜ (r .start ≤ r .filled) × (r .filled ≤ length (now (buf .exit))) ⌝ }
+{
+    let start = s.start;
+    let filled = s.filled;
+    let end = line_end(buf, start, filled);
+    if end < filled {
+        let past = end + 1;
+        let mut next = run_line(s, &buf[start..end], text);
+        next.at = end_answer(text, next.at);
+        next.start = past;
+        next.filled = filled;
+        return next;
+    }
+    let mut next = s;
+    next.filled = read_on(buf, start, filled, text, s.at);
+    next.at = 0;
+    next.start = 0;
+    next
+}
+
 // Nothing says that an input ends, and a proved loop has to: it counts its turns down from a number that no run uses up.
-fn read_on(buf: &mut [u8], input: &mut [u8], output: &mut [u8], text: &mut [u8]) {
-    let mut tables = unopened();
-    let mut kept = 0;
+fn run_lines(buf: &mut [u8], text: &mut [u8]) {
+    let mut state = unopened();
     let mut turns = u64::MAX;
     while 0 < turns {
-        let filled = read_more(buf, kept);
-        if filled == kept {
+        state = turn(state, buf, text);
+        if state.filled == 0 {
             return;
         }
-        let r = run_lines(tables, buf, filled, input, output, text);
-        tables = r.tables;
-        kept = keep(buf, r.start, filled);
         turns -= 1;
     }
 }
 
 pub fn run() {
     let mut buf = io::large_buffer();
-    let mut input = io::buffer();
-    let mut output = io::buffer();
     let mut text = io::large_buffer();
-    read_on(&mut buf, &mut input, &mut output, &mut text);
+    run_lines(&mut buf, &mut text);
 }

@@ -1,97 +1,96 @@
-ghost use Prim.Native.Nat.{_≤_};
-ghost use lib.ListN.{length};
-use crate::answer::put_opened;
-use crate::answer::put_requested;
-use crate::answer::put_sent;
-use crate::ran::Ran;
-use crate::ran::unknown;
-use crtp::CompressorTable as Table;
-use crtp::open_compressor as open;
-use crtp::request;
-use crtp::send;
+ghost use Prim.Native.Nat.{_<_};
+ghost use Rattle.script_compressor.specs.Line.{contextOf, placeOf};
+use script_fields::entry::Entry;
+use script_rows::compressor_row::entry_at;
 use script_text::hex::Decoded;
+use script_text::number::Number;
 use script_text::number::Pair;
+use script_text::number::last_number;
 use script_text::number::last_pair;
 use script_text::packet::Packet;
 use script_text::packet::last_bytes;
 use script_text::packet::packet_at;
-use script_text::room::fill;
+use script_text::room::ROOM;
 use script_text::word::Word;
+use script_text::word::name_index;
+
+// A call, without its table: of bytes how many stand at the front of the input, of an output its room.
+pub enum Call {
+    Open(u32, u32),
+    Send(usize, usize),
+    Request(usize),
+}
+
+// What a line is for: a call, writing into the table by hand, showing a context.
+pub enum Line {
+    Asks(Call),
+    Writes(Entry),
+    Shows(usize),
+    No,
+}
 
 // os N K
-pub fn run_open(t: Table, line: &[u8], w: Word, text: &mut [u8], at: usize) -> Ran
-    requires { ⌜ at ≤ length (now text) ⌝ }
-    ensures { λ r. ⌜ r .at ≤ length (now (text .exit)) ⌝ }
+fn open_at(line: &[u8], w: Word) -> Line
+    ensures { λ r. ⌜ (contextOf r < 64) × (placeOf r < 47) ⌝ }
 {
-    let Pair::Are(n, k) = last_pair(line, w) else {
-        return unknown(t, text, at);
-    };
-    let r = open(t, n, k);
-    let o = r.outcome;
-    let end = put_opened(text, at, o);
-    let after = r.table;
-    Ran {
-        table: after,
-        at: end,
-    }
-}
-
-// q HEX
-pub fn run_request(
-    t: Table,
-    line: &[u8],
-    w: Word,
-    input: &mut [u8],
-    text: &mut [u8],
-    at: usize,
-) -> Ran
-    requires { ⌜ at ≤ length (now text) ⌝ }
-    ensures { λ r. ⌜ r .at ≤ length (now (text .exit)) ⌝ }
-{
-    let Decoded::Bytes(n) = last_bytes(line, w, input) else {
-        return unknown(t, text, at);
-    };
-    let r = request(t, &input[..n]);
-    let o = r.outcome;
-    let end = put_requested(text, at, o);
-    let after = r.table;
-    Ran {
-        table: after,
-        at: end,
-    }
-}
-
-// The send itself, with an output of its own.
-fn answer_send(t: Table, p: &[u8], output: &mut [u8], text: &mut [u8], at: usize) -> Ran
-    requires { ⌜ at ≤ length (now text) ⌝ }
-    ensures { λ r. ⌜ r .at ≤ length (now (text .exit)) ⌝ }
-{
-    fill(output);
-    let r = send(t, p, output);
-    let o = r.outcome;
-    let end = put_sent(text, at, o, output);
-    let after = r.table;
-    Ran {
-        table: after,
-        at: end,
+    match last_pair(line, w) {
+        Pair::Are(n, k) => Line::Asks(Call::Open(n, k)),
+        Pair::No => Line::No,
     }
 }
 
 // s HEX ROOM
-pub fn run_send(
-    t: Table,
-    line: &[u8],
-    w: Word,
-    input: &mut [u8],
-    output: &mut [u8],
-    text: &mut [u8],
-    at: usize,
-) -> Ran
-    requires { ⌜ at ≤ length (now text) ⌝ }
-    ensures { λ r. ⌜ r .at ≤ length (now (text .exit)) ⌝ }
+fn send_at(line: &[u8], w: Word, input: &mut [u8]) -> Line
+    ensures { λ r. ⌜ (contextOf r < 64) × (placeOf r < 47) ⌝ }
 {
-    let Packet::Is(n, room) = packet_at(line, w, output.len(), input) else {
-        return unknown(t, text, at);
+    match packet_at(line, w, ROOM, input) {
+        Packet::Is(n, room) => Line::Asks(Call::Send(n, room)),
+        Packet::No => Line::No,
+    }
+}
+
+// q HEX
+fn request_at(line: &[u8], w: Word, input: &mut [u8]) -> Line
+    ensures { λ r. ⌜ (contextOf r < 64) × (placeOf r < 47) ⌝ }
+{
+    match last_bytes(line, w, input) {
+        Decoded::Bytes(n) => Line::Asks(Call::Request(n)),
+        Decoded::No => Line::No,
+    }
+}
+
+// ds I
+fn show_at(line: &[u8], w: Word) -> Line
+    ensures { λ r. ⌜ (contextOf r < 64) × (placeOf r < 47) ⌝ }
+{
+    let Number::Is(i) = last_number(line, w) else {
+        return Line::No;
     };
-    answer_send(t, &input[..n], &mut output[..room], text, at)
+    if crtp::Settings::MAX_CONTEXTS <= i {
+        return Line::No;
+    }
+    Line::Shows(i as usize)
+}
+
+// Which of the compressor's calls the first word of a line names; 5 for none.
+fn name_at(line: &[u8], w: Word) -> usize {
+    name_index(b"s q os ws ds", line, w)
+}
+
+pub fn is_name(line: &[u8], w: Word) -> bool {
+    name_at(line, w) < 5
+}
+
+// A line, of which this is the first word, taken apart.
+pub fn read_line(line: &[u8], w: Word, input: &mut [u8]) -> Line
+    ensures { λ r. ⌜ (contextOf r < 64) × (placeOf r < 47) ⌝ }
+{
+    match name_at(line, w) {
+        0 => send_at(line, w, input),
+        1 => request_at(line, w, input),
+        2 => open_at(line, w),
+        3 => Line::Writes(entry_at(line, w)),
+        4 => show_at(line, w),
+        _ => Line::No,
+    }
 }

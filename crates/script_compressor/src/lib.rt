@@ -1,10 +1,9 @@
 // The compressor's calls as lines of a script: os, s, q, ws, ds.
 //
-// What a call does is the business of `compressor`, its text that of `script_text`; here a line finds its call, the call gets the
-// table, and what it answers becomes text.
+// What a call does is the business of `crtp`, its text that of `script_text`. A line is taken apart before the table is touched;
+// what it asks for is run, and the outcome becomes text.
 // Read `line::run_line` first.
 pub mod answer;
 pub mod call;
 pub mod line;
-pub mod ran;
-pub mod row;
+pub mod table;

@@ -1,13 +1,7 @@
-ghost use Prim.Native.Nat.{_≤_};
-ghost use lib.ListN.{length};
-use crate::answer::put_answer;
-use crate::answer::put_opened;
-use crate::ran::Ran;
-use crate::ran::unknown;
-use crtp::DecompressorTable as Table;
-use crtp::open_decompressor as open;
-use crtp::receive;
-use crtp::report;
+ghost use Prim.Native.Nat.{_<_};
+ghost use Rattle.script_decompressor.specs.Line.{contextOf, placeOf};
+use script_fields::entry::Entry;
+use script_rows::decompressor_row::entry_at;
 use script_text::number::Number;
 use script_text::number::Pair;
 use script_text::number::last_number;
@@ -15,108 +9,87 @@ use script_text::number::last_pair;
 use script_text::number::number_at;
 use script_text::packet::Packet;
 use script_text::packet::packet_at;
-use script_text::room::fill;
+use script_text::room::ROOM;
 use script_text::word::Word;
+use script_text::word::name_index;
 use script_text::word::next_word;
 
+// A call, without its table: of bytes how many stand at the front of the input, of an output its room.
+pub enum Call {
+    Open(u32, u32),
+    Receive(u32, usize, usize),
+    Report(usize),
+}
+
+// What a line is for: a call, writing into the table by hand, showing a context.
+pub enum Line {
+    Asks(Call),
+    Writes(Entry),
+    Shows(usize),
+    No,
+}
+
 // or N K
-pub fn run_open(t: Table, line: &[u8], w: Word, text: &mut [u8], at: usize) -> Ran
-    requires { ⌜ at ≤ length (now text) ⌝ }
-    ensures { λ r. ⌜ r .at ≤ length (now (text .exit)) ⌝ }
+fn open_at(line: &[u8], w: Word) -> Line
+    ensures { λ r. ⌜ (contextOf r < 64) × (placeOf r < 47) ⌝ }
 {
-    let Pair::Are(n, k) = last_pair(line, w) else {
-        return unknown(t, text, at);
-    };
-    let r = open(t, n, k);
-    let o = r.outcome;
-    let end = put_opened(text, at, o);
-    let after = r.table;
-    Ran {
-        table: after,
-        at: end,
-    }
-}
-
-// The report itself, with an output of its own.
-fn answer_report(t: Table, output: &mut [u8], text: &mut [u8], at: usize) -> Ran
-    requires { ⌜ at ≤ length (now text) ⌝ }
-    ensures { λ r. ⌜ r .at ≤ length (now (text .exit)) ⌝ }
-{
-    fill(output);
-    let r = report(t, output);
-    let o = r.outcome;
-    let end = put_answer(text, at, o, output);
-    let after = r.table;
-    Ran {
-        table: after,
-        at: end,
-    }
-}
-
-// p ROOM
-pub fn run_report(
-    t: Table,
-    line: &[u8],
-    w: Word,
-    output: &mut [u8],
-    text: &mut [u8],
-    at: usize,
-) -> Ran
-    requires { ⌜ at ≤ length (now text) ⌝ }
-    ensures { λ r. ⌜ r .at ≤ length (now (text .exit)) ⌝ }
-{
-    let Number::Is(room) = last_number(line, w) else {
-        return unknown(t, text, at);
-    };
-    let room = room as usize;
-    if output.len() < room {
-        return unknown(t, text, at);
-    }
-    answer_report(t, &mut output[..room], text, at)
-}
-
-// The arrival itself, with an output of its own.
-fn answer_receive(
-    t: Table,
-    kind: u32,
-    p: &[u8],
-    output: &mut [u8],
-    text: &mut [u8],
-    at: usize,
-) -> Ran
-    requires { ⌜ at ≤ length (now text) ⌝ }
-    ensures { λ r. ⌜ r .at ≤ length (now (text .exit)) ⌝ }
-{
-    fill(output);
-    let r = receive(t, kind, p, output);
-    let o = r.outcome;
-    let end = put_answer(text, at, o, output);
-    let after = r.table;
-    Ran {
-        table: after,
-        at: end,
+    match last_pair(line, w) {
+        Pair::Are(n, k) => Line::Asks(Call::Open(n, k)),
+        Pair::No => Line::No,
     }
 }
 
 // r TYPE HEX ROOM
-pub fn run_receive(
-    t: Table,
-    line: &[u8],
-    w: Word,
-    input: &mut [u8],
-    output: &mut [u8],
-    text: &mut [u8],
-    at: usize,
-) -> Ran
-    requires { ⌜ at ≤ length (now text) ⌝ }
-    ensures { λ r. ⌜ r .at ≤ length (now (text .exit)) ⌝ }
+fn receive_at(line: &[u8], w: Word, input: &mut [u8]) -> Line
+    ensures { λ r. ⌜ (contextOf r < 64) × (placeOf r < 47) ⌝ }
 {
     let a = next_word(line, w);
     let Number::Is(kind) = number_at(line, a) else {
-        return unknown(t, text, at);
+        return Line::No;
     };
-    let Packet::Is(n, room) = packet_at(line, a, output.len(), input) else {
-        return unknown(t, text, at);
+    match packet_at(line, a, ROOM, input) {
+        Packet::Is(n, room) => Line::Asks(Call::Receive(kind, n, room)),
+        Packet::No => Line::No,
+    }
+}
+
+// p ROOM
+fn report_at(line: &[u8], w: Word) -> Line
+    ensures { λ r. ⌜ (contextOf r < 64) × (placeOf r < 47) ⌝ }
+{
+    let Number::Is(room) = last_number(line, w) else {
+        return Line::No;
     };
-    answer_receive(t, kind, &input[..n], &mut output[..room], text, at)
+    let room = room as usize;
+    if ROOM < room {
+        return Line::No;
+    }
+    Line::Asks(Call::Report(room))
+}
+
+// dr I
+fn show_at(line: &[u8], w: Word) -> Line
+    ensures { λ r. ⌜ (contextOf r < 64) × (placeOf r < 47) ⌝ }
+{
+    let Number::Is(i) = last_number(line, w) else {
+        return Line::No;
+    };
+    if crtp::Settings::MAX_CONTEXTS <= i {
+        return Line::No;
+    }
+    Line::Shows(i as usize)
+}
+
+// A line, of which this is the first word, taken apart.
+pub fn read_line(line: &[u8], w: Word, input: &mut [u8]) -> Line
+    ensures { λ r. ⌜ (contextOf r < 64) × (placeOf r < 47) ⌝ }
+{
+    match name_index(b"r p or wr dr", line, w) {
+        0 => receive_at(line, w, input),
+        1 => report_at(line, w),
+        2 => open_at(line, w),
+        3 => Line::Writes(entry_at(line, w)),
+        4 => show_at(line, w),
+        _ => Line::No,
+    }
 }

@@ -26,7 +26,7 @@ pub fn field(i: u32, place: usize, most: u32, v: u32) -> Entry
     requires { ⌜ place < 47 ⌝ }
     ensures { λ r. ⌜ (contextOf r < 64) × (placeOf r < 47) ⌝ }
 {
-    if 64 <= i {
+    if Settings::MAX_CONTEXTS <= i {
         return Entry::No;
     }
     if most < v {
@@ -49,10 +49,7 @@ pub fn with_setting(s: Settings, repeats: bool, v: u8) -> Settings {
 }
 
 // The answer to a line that writes.
-pub fn put_written(text: &mut [u8], at: usize, e: Entry) -> usize
-    requires { ⌜ at ≤ length (now text) ⌝ }
-    ensures { λ r. ⌜ r ≤ length (now (text .exit)) ⌝ }
-{
+pub fn put_written(text: &mut [u8], at: usize, e: Entry) -> usize {
     match e {
         Entry::Setting(_, _) => put_all(text, at, b"ok"),
         Entry::Field(_, _, _) => put_all(text, at, b"ok"),

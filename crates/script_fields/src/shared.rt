@@ -4,6 +4,11 @@ use crtp::Flow;
 use crtp::Ip;
 use crtp::Rtp;
 
+// A context as numbers: each field has its place, with 47 places for the end that keeps more.
+pub const PLACES: usize = 47;
+
+pub type Row = [u32; PLACES];
+
 // The largest number that the type of the field at a place up to 33 holds, but for the status at 0.
 pub fn most(place: usize) -> u32 {
     match place {
@@ -28,7 +33,7 @@ pub fn short(v: u32) -> u16 {
 }
 
 // Each of these puts one part's fields into the row.
-pub fn flow_values(f: Flow, row: [u32; 47]) -> [u32; 47] {
+pub fn flow_values(f: Flow, row: Row) -> Row {
     let mut v = row;
     v[1] = f.source;
     v[2] = f.destination;
@@ -38,7 +43,7 @@ pub fn flow_values(f: Flow, row: [u32; 47]) -> [u32; 47] {
     v
 }
 
-pub fn ip_values(i: Ip, row: [u32; 47]) -> [u32; 47] {
+pub fn ip_values(i: Ip, row: Row) -> Row {
     let mut v = row;
     v[6] = i.tos as u32;
     v[7] = i.ttl as u32;
@@ -47,7 +52,7 @@ pub fn ip_values(i: Ip, row: [u32; 47]) -> [u32; 47] {
     v
 }
 
-pub fn rtp_values(r: Rtp, row: [u32; 47]) -> [u32; 47] {
+pub fn rtp_values(r: Rtp, row: Row) -> Row {
     let mut v = row;
     v[9] = bit(r.padding);
     v[10] = bit(r.extension);
@@ -57,7 +62,7 @@ pub fn rtp_values(r: Rtp, row: [u32; 47]) -> [u32; 47] {
     v
 }
 
-pub fn list_values(l: Csrc, row: [u32; 47]) -> [u32; 47] {
+pub fn list_values(l: Csrc, row: Row) -> Row {
     let words = l.words;
     let mut v = row;
     v[16] = l.count as u32;
@@ -69,7 +74,7 @@ pub fn list_values(l: Csrc, row: [u32; 47]) -> [u32; 47] {
     v
 }
 
-pub fn delta_values(d: Deltas, row: [u32; 47]) -> [u32; 47] {
+pub fn delta_values(d: Deltas, row: Row) -> Row {
     let mut v = row;
     v[32] = d.id as u32;
     v[33] = d.timestamp;
@@ -77,7 +82,7 @@ pub fn delta_values(d: Deltas, row: [u32; 47]) -> [u32; 47] {
 }
 
 // Each of these is the part that a row stands for.
-pub fn flow_of(v: [u32; 47]) -> Flow {
+pub fn flow_of(v: Row) -> Flow {
     Flow {
         source: v[1],
         destination: v[2],
@@ -87,7 +92,7 @@ pub fn flow_of(v: [u32; 47]) -> Flow {
     }
 }
 
-pub fn ip_of(v: [u32; 47]) -> Ip {
+pub fn ip_of(v: Row) -> Ip {
     Ip {
         tos: byte(v[6]),
         ttl: byte(v[7]),
@@ -96,7 +101,7 @@ pub fn ip_of(v: [u32; 47]) -> Ip {
     }
 }
 
-pub fn rtp_of(v: [u32; 47]) -> Rtp {
+pub fn rtp_of(v: Row) -> Rtp {
     Rtp {
         padding: v[9] == 1,
         extension: v[10] == 1,
@@ -106,7 +111,7 @@ pub fn rtp_of(v: [u32; 47]) -> Rtp {
     }
 }
 
-pub fn list_of(v: [u32; 47]) -> Csrc {
+pub fn list_of(v: Row) -> Csrc {
     let mut words = [0u32; 15];
     let mut i = 0;
     while i < 15 {
@@ -119,7 +124,7 @@ pub fn list_of(v: [u32; 47]) -> Csrc {
     }
 }
 
-pub fn deltas_of(v: [u32; 47]) -> Deltas {
+pub fn deltas_of(v: Row) -> Deltas {
     Deltas {
         id: short(v[32]),
         timestamp: v[33],

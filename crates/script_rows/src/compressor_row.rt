@@ -9,6 +9,8 @@ use crtp::Usage;
 use script_fields::entry;
 use script_fields::entry::Entry;
 use script_fields::shared;
+use script_fields::shared::PLACES;
+use script_fields::shared::Row;
 use script_fields::shared::bit;
 use script_fields::shared::byte;
 use script_fields::shared::short;
@@ -19,10 +21,8 @@ use script_text::word::is_word;
 use script_text::word::name_index;
 use script_text::word::next_word;
 
-// Which field a word of a line names: its place in the row, 47 for none.
-fn field_at(line: &[u8], w: Word) -> usize
-    requires { ⌜ (w .at ≤ w .end) × (w .end ≤ length (now line)) ⌝ }
-{
+// Which field a word of a line names: its place in the row, the number of places for none.
+fn field_at(line: &[u8], w: Word) -> usize {
     name_index(
         b"status source destination sport dport ssrc tos ttl flags padding extension blank id sequence timestamp payload cc csrc0 csrc1 csrc2 csrc3 csrc4 csrc5 csrc6 csrc7 csrc8 csrc9 csrc10 csrc11 csrc12 csrc13 csrc14 did dts earlier eid ets idue sdue tdue pdue cdue didue dtdue fdue link generation",
         line,
@@ -40,7 +40,7 @@ fn most(field: usize) -> u32 {
     }
 }
 
-fn earlier_values(e: Earlier, row: [u32; 47]) -> [u32; 47] {
+fn earlier_values(e: Earlier, row: Row) -> Row {
     let mut v = row;
     v[34] = bit(e.known);
     v[35] = e.id as u32;
@@ -48,7 +48,7 @@ fn earlier_values(e: Earlier, row: [u32; 47]) -> [u32; 47] {
     v
 }
 
-fn due_values(d: Due, row: [u32; 47]) -> [u32; 47] {
+fn due_values(d: Due, row: Row) -> Row {
     let mut v = row;
     v[37] = d.id as u32;
     v[38] = d.sequence as u32;
@@ -61,7 +61,7 @@ fn due_values(d: Due, row: [u32; 47]) -> [u32; 47] {
     v
 }
 
-fn link_values(l: Link, row: [u32; 47]) -> [u32; 47] {
+fn link_values(l: Link, row: Row) -> Row {
     let mut v = row;
     v[45] = l.sequence as u32;
     v[46] = l.generation as u32;
@@ -75,7 +75,7 @@ fn is_live(s: Usage) -> bool {
     }
 }
 
-pub fn values(c: CompressorContext) -> [u32; 47] {
+pub fn values(c: CompressorContext) -> Row {
     let status = c.status;
     let flow = c.flow;
     let ip = c.ip;
@@ -85,7 +85,7 @@ pub fn values(c: CompressorContext) -> [u32; 47] {
     let earlier = c.earlier;
     let due = c.due;
     let link = c.link;
-    let mut v = [0u32; 47];
+    let mut v = [0u32; PLACES];
     v[0] = bit(is_live(status));
     v[11] = bit(c.blank);
     v = shared::flow_values(flow, v);
@@ -98,7 +98,7 @@ pub fn values(c: CompressorContext) -> [u32; 47] {
     link_values(link, v)
 }
 
-fn due_of(v: [u32; 47]) -> Due {
+fn due_of(v: Row) -> Due {
     Due {
         full: byte(v[44]),
         id: byte(v[37]),
@@ -119,7 +119,7 @@ fn usage_of(v: u32) -> Usage {
 }
 
 // The context that a row stands for.
-fn context_of(v: [u32; 47]) -> CompressorContext {
+fn context_of(v: Row) -> CompressorContext {
     let status = usage_of(v[0]);
     let flow = shared::flow_of(v);
     let ip = shared::ip_of(v);
@@ -174,7 +174,7 @@ pub fn entry_at(line: &[u8], w: Word) -> Entry
         return entry::setting(false, i, v);
     }
     let f = field_at(line, a);
-    if 47 <= f {
+    if PLACES <= f {
         return Entry::No;
     }
     entry::field(i, f, most(f), v)

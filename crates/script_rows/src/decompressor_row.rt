@@ -7,6 +7,8 @@ use crtp::Status;
 use script_fields::entry;
 use script_fields::entry::Entry;
 use script_fields::shared;
+use script_fields::shared::PLACES;
+use script_fields::shared::Row;
 use script_fields::shared::bit;
 use script_fields::shared::byte;
 use script_text::number::Pair;
@@ -16,10 +18,11 @@ use script_text::word::is_word;
 use script_text::word::name_index;
 use script_text::word::next_word;
 
-// Which field a word of a line names, in the order of showing; 38 for none.
-fn field_at(line: &[u8], w: Word) -> usize
-    requires { ⌜ (w .at ≤ w .end) × (w .end ≤ length (now line)) ⌝ }
-{
+// How many fields a decompressor's context has.
+pub const FIELDS: usize = 38;
+
+// Which field a word of a line names, in the order of showing; their number for none.
+fn field_at(line: &[u8], w: Word) -> usize {
     name_index(
         b"status filled source destination sport dport ssrc tos ttl flags padding extension carried marker id sequence timestamp payload cc csrc0 csrc1 csrc2 csrc3 csrc4 csrc5 csrc6 csrc7 csrc8 csrc9 csrc10 csrc11 csrc12 csrc13 csrc14 did dts link generation",
         line,
@@ -58,7 +61,7 @@ fn status_value(s: Status) -> u32 {
     }
 }
 
-pub fn values(c: DecompressorContext) -> [u32; 47] {
+pub fn values(c: DecompressorContext) -> Row {
     let status = c.status;
     let flow = c.flow;
     let ip = c.ip;
@@ -66,7 +69,7 @@ pub fn values(c: DecompressorContext) -> [u32; 47] {
     let csrc = c.csrc;
     let deltas = c.deltas;
     let link = c.link;
-    let mut v = [0u32; 47];
+    let mut v = [0u32; PLACES];
     v[0] = status_value(status);
     v[11] = bit(c.carried);
     v[34] = bit(c.filled);
@@ -89,7 +92,7 @@ fn status_of(v: u32) -> Status {
 }
 
 // The context that a row stands for.
-fn context_of(v: [u32; 47]) -> DecompressorContext {
+fn context_of(v: Row) -> DecompressorContext {
     let status = status_of(v[0]);
     let flow = shared::flow_of(v);
     let ip = shared::ip_of(v);
@@ -138,7 +141,7 @@ pub fn entry_at(line: &[u8], w: Word) -> Entry
         return entry::setting(false, i, v);
     }
     let f = field_at(line, a);
-    if 38 <= f {
+    if FIELDS <= f {
         return Entry::No;
     }
     let p = place(f);

@@ -1,10 +1,9 @@
 ghost use Prim.Native.Nat.{_≤_, _<_, _*_};
 ghost use lib.ListN.{length};
-ghost use Rattle.script_text.specs.Decoded.{sizeOf};
 use crate::word::Word;
-use crate::word::same;
+use crate::word::part;
 
-// How many bytes were decoded, or that the word has none of them.
+// How many bytes were decoded to the front of a buffer, or that the word has none of them.
 pub enum Decoded {
     Bytes(usize),
     No,
@@ -24,7 +23,6 @@ fn value(b: u8) -> u8
 // n bytes from 2 n digits.
 fn decode(word: &[u8], n: usize, bytes: &mut [u8]) -> Decoded
     requires { ⌜ (2 * n ≤ length (now word)) × (n ≤ length (now bytes)) ⌝ }
-    ensures { λ r. ⌜ sizeOf r ≤ length (now (bytes .exit)) ⌝ }
 {
     let mut i = 0;
     while i < n {
@@ -40,10 +38,8 @@ fn decode(word: &[u8], n: usize, bytes: &mut [u8]) -> Decoded
 }
 
 // A word of hex, or - for no bytes.
-fn read(word: &[u8], bytes: &mut [u8]) -> Decoded
-    ensures { λ r. ⌜ sizeOf r ≤ length (now (bytes .exit)) ⌝ }
-{
-    if same(word, b"-") {
+fn read(word: &[u8], bytes: &mut [u8]) -> Decoded {
+    if check::same(word, b"-") {
         return Decoded::Bytes(0);
     }
     let n = word.len() / 2;
@@ -56,11 +52,6 @@ fn read(word: &[u8], bytes: &mut [u8]) -> Decoded
     decode(word, n, bytes)
 }
 
-pub fn bytes_at(line: &[u8], w: Word, bytes: &mut [u8]) -> Decoded
-    requires { ⌜ (w .at ≤ w .end) × (w .end ≤ length (now line)) ⌝ }
-    ensures { λ r. ⌜ sizeOf r ≤ length (now (bytes .exit)) ⌝ }
-{
-    let at = w.at;
-    let end = w.end;
-    read(&line[at..end], bytes)
+pub fn bytes_at(line: &[u8], w: Word, bytes: &mut [u8]) -> Decoded {
+    read(part(line, w), bytes)
 }

@@ -1,7 +1,7 @@
 ghost use Prim.Native.Nat.{_≤_};
-ghost use lib.ListN.{length};
 use crate::word::Word;
 use crate::word::next_word;
+use crate::word::part;
 
 pub enum Number {
     Is(u32),
@@ -39,12 +39,8 @@ fn read(word: &[u8]) -> Number {
     Number::Is(v as u32)
 }
 
-pub fn number_at(line: &[u8], w: Word) -> Number
-    requires { ⌜ (w .at ≤ w .end) × (w .end ≤ length (now line)) ⌝ }
-{
-    let at = w.at;
-    let end = w.end;
-    read(&line[at..end])
+pub fn number_at(line: &[u8], w: Word) -> Number {
+    read(part(line, w))
 }
 
 pub enum Pair {

@@ -1,6 +1,3 @@
-ghost use Prim.Native.Nat.{_≤_};
-ghost use lib.ListN.{length};
-ghost use Rattle.script_text.specs.Decoded.{sizeOf, packetSize, packetRoom};
 use crate::hex::Decoded;
 use crate::hex::bytes_at;
 use crate::number::Number;
@@ -15,9 +12,7 @@ pub enum Packet {
 }
 
 // The bytes after a word, where the line ends with them.
-pub fn last_bytes(line: &[u8], w: Word, bytes: &mut [u8]) -> Decoded
-    ensures { λ r. ⌜ sizeOf r ≤ length (now (bytes .exit)) ⌝ }
-{
+pub fn last_bytes(line: &[u8], w: Word, bytes: &mut [u8]) -> Decoded {
     let a = next_word(line, w);
     if a.end != line.len() {
         return Decoded::No;
@@ -26,9 +21,7 @@ pub fn last_bytes(line: &[u8], w: Word, bytes: &mut [u8]) -> Decoded
 }
 
 // Bytes and a room of at most so many bytes after a word, where the line ends with them.
-pub fn packet_at(line: &[u8], w: Word, most: usize, bytes: &mut [u8]) -> Packet
-    ensures { λ r. ⌜ (packetSize r ≤ length (now (bytes .exit))) × (packetRoom r ≤ most) ⌝ }
-{
+pub fn packet_at(line: &[u8], w: Word, most: usize, bytes: &mut [u8]) -> Packet {
     let a = next_word(line, w);
     let Decoded::Bytes(n) = bytes_at(line, a, bytes) else {
         return Packet::No;

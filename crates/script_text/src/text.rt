@@ -1,11 +1,5 @@
-ghost use Prim.Native.Nat.{_≤_};
-ghost use lib.ListN.{length};
-
 // Each put appends to a text that is filled up to at, and answers how far it is filled then. What no longer fits is left out.
-pub fn put(text: &mut [u8], at: usize, b: u8) -> usize
-    requires { ⌜ at ≤ length (now text) ⌝ }
-    ensures { λ r. ⌜ r ≤ length (now (text .exit)) ⌝ }
-{
+pub fn put(text: &mut [u8], at: usize, b: u8) -> usize {
     if at < text.len() {
         text[at] = b;
         return at + 1;
@@ -13,10 +7,7 @@ pub fn put(text: &mut [u8], at: usize, b: u8) -> usize
     at
 }
 
-pub fn put_all(text: &mut [u8], at: usize, s: &[u8]) -> usize
-    requires { ⌜ at ≤ length (now text) ⌝ }
-    ensures { λ r. ⌜ r ≤ length (now (text .exit)) ⌝ }
-{
+pub fn put_all(text: &mut [u8], at: usize, s: &[u8]) -> usize {
     let mut o = at;
     let mut i = 0;
     while i < s.len() {
@@ -26,10 +17,7 @@ pub fn put_all(text: &mut [u8], at: usize, s: &[u8]) -> usize
     o
 }
 
-pub fn put_number(text: &mut [u8], at: usize, v: u64) -> usize
-    requires { ⌜ at ≤ length (now text) ⌝ }
-    ensures { λ r. ⌜ r ≤ length (now (text .exit)) ⌝ }
-{
+pub fn put_number(text: &mut [u8], at: usize, v: u64) -> usize {
     let mut digits = [0u8; 20];
     let n = io::decimal(v, &mut digits);
     put_all(text, at, &digits[..n])
@@ -42,10 +30,7 @@ fn glyph(b: u8) -> u8 {
 }
 
 // The bytes in hex, - where there are none.
-pub fn put_hex(text: &mut [u8], at: usize, s: &[u8]) -> usize
-    requires { ⌜ at ≤ length (now text) ⌝ }
-    ensures { λ r. ⌜ r ≤ length (now (text .exit)) ⌝ }
-{
+pub fn put_hex(text: &mut [u8], at: usize, s: &[u8]) -> usize {
     if s.len() == 0 {
         return put(text, at, b'-');
     }

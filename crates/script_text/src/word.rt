@@ -8,7 +8,7 @@ pub struct Word {
 }
 
 // The next space from a place on, or the end of the line.
-pub fn word_end(line: &[u8], at: usize) -> usize
+fn word_end(line: &[u8], at: usize) -> usize
     requires { ⌜ at ≤ length (now line) ⌝ }
     ensures { λ r. ⌜ (at ≤ r) × (r ≤ length (now (line .entry))) ⌝ }
 {
@@ -22,17 +22,13 @@ pub fn word_end(line: &[u8], at: usize) -> usize
     i
 }
 
-pub fn first_word(line: &[u8]) -> Word
-    ensures { λ r. ⌜ (r .at ≤ r .end) × (r .end ≤ length (now (line .entry))) ⌝ }
-{
+pub fn first_word(line: &[u8]) -> Word {
     let end = word_end(line, 0);
     Word { at: 0, end: end }
 }
 
 // The word after one; an empty one where there is none.
-pub fn next_word(line: &[u8], w: Word) -> Word
-    ensures { λ r. ⌜ (r .at ≤ r .end) × (r .end ≤ length (now (line .entry))) ⌝ }
-{
+pub fn next_word(line: &[u8], w: Word) -> Word {
     let past = w.end;
     if past < line.len() {
         let at = past + 1;
@@ -45,33 +41,26 @@ pub fn next_word(line: &[u8], w: Word) -> Word
     }
 }
 
-pub fn same(a: &[u8], b: &[u8]) -> bool {
-    if a.len() != b.len() {
-        return false;
+// The bytes of a line's word; the whole line where the word is none of it.
+pub fn part<'a>(line: &'a [u8], w: Word) -> &'a [u8] {
+    let at = w.at;
+    let end = w.end;
+    if line.len() < end {
+        return line;
     }
-    let mut i = 0;
-    while i < a.len() {
-        if a[i] != b[i] {
-            return false;
-        }
-        i += 1;
+    if end < at {
+        return line;
     }
-    true
+    &line[at..end]
 }
 
 // Whether a word of a line is this one.
-pub fn is_word(line: &[u8], w: Word, name: &[u8]) -> bool
-    requires { ⌜ (w .at ≤ w .end) × (w .end ≤ length (now line)) ⌝ }
-{
-    let at = w.at;
-    let end = w.end;
-    same(&line[at..end], name)
+pub fn is_word(line: &[u8], w: Word, name: &[u8]) -> bool {
+    check::same(part(line, w), name)
 }
 
 // Which of some names, with one space between them, a word is: how many stand before it, or their number where it is none.
-pub fn name_index(names: &[u8], line: &[u8], w: Word) -> usize
-    requires { ⌜ (w .at ≤ w .end) × (w .end ≤ length (now line)) ⌝ }
-{
+pub fn name_index(names: &[u8], line: &[u8], w: Word) -> usize {
     let mut count = 0;
     let mut at = 0;
     while at < names.len() {

@@ -1,33 +1,40 @@
-use lib.ListN.{length}
 use Prim.Native.Nat.{_≤_, _-_}
+use lib.ListN.{length}
 use borrow.Author.Needs.{needs}
 use Rattle.script_text.proofs.room.is_touched.Statement.{statement}
 use Rattle.script_text.proofs.room.is_touched.Tie as tie
 
 abbrev Inv-loop : tie.InvT-loop
-Inv-loop output i₀ i = i ≤ length output
+Inv-loop output from i₀ i = from ≤ i
 
 abbrev μ-loop : tie.MeasureT-loop
-μ-loop output i₀ i = length output - i
+μ-loop output from i₀ i = length output - i
 
+-- src/room.rt:18:5
 loop-holds : tie.Need-loop-holds Inv-loop μ-loop
 loop-holds c = search needs
 
+-- src/room.rt:19:12
 shared-slice-read-if1 : tie.Need-shared-slice-read-if1 Inv-loop μ-loop
 shared-slice-read-if1 c = search needs
 
+-- src/room.rt:20:13
 returns : tie.Need-returns Inv-loop μ-loop
 returns c = search needs
 
+-- src/room.rt:22:9
 add-i : tie.Need-add-i Inv-loop μ-loop
 add-i c = search needs
 
+-- src/room.rt:18:5
 loop-less : tie.Need-loop-less Inv-loop μ-loop
 loop-less c = search needs
 
+-- src/room.rt:18:5
 loop-again : tie.Need-loop-again Inv-loop μ-loop
 loop-again c = search needs
 
+-- src/room.rt:16:1
 returns-2 : tie.Need-returns-2 Inv-loop μ-loop
 returns-2 c = search needs
 
