@@ -72,8 +72,8 @@ bitsForbidden f generation = f .zero1 || f .zero2 || f .zero3 || not (eqb (gener
 
 -- k: how many contexts there are
 unfoldable pub recordWith : (k context : ℕ) → RecordFlags → (generation : ℕ) → Verdict
-recordWith k context f generation = cond (leb k context) (Refused NoSuchContext)
-    (cond (bitsForbidden f generation) (Refused Forbidden) Accepted)
+recordWith k context f generation =
+    cond (leb k context) (Refused NoSuchContext) (cond (bitsForbidden f generation) (Refused Forbidden) Accepted)
 
 unfoldable pub recordJudged : (k : ℕ) → List ℕ → ℕ → Verdict
 recordJudged k s i = recordWith k (recordContext s i) (recordFlagsAt s i) (byteAt s (recordAt i + 2))
