@@ -177,7 +177,7 @@ module _ {P L B Q F C D SA RA : Type 0} (ε : Ends P L B Q F C D SA RA) where
   ---- The premises, as to context c, counting the packets from number `from` on
 
   pub record Proper (n from c : ℕ) (w : World P L F C D) (i : ℕ) : Type 0 where
-    -- it is of an accepted send earlier in the list; arrivals come in the order of their sends, and none twice
+    -- the send was accepted and came before it; what was sent later has not arrived yet, nor this one before
     pub sent : i < length (w .log)
     pub order : w .next ≤ i
     -- of the packets on c sent before it n + 1 next to each other are not all lost

@@ -1,5 +1,5 @@
 -- Iarwennol. Differences modulo 2 ^ w, w the width of their field (rule 4.2).
--- Used at both widths by codes, context, compress and rebuild.
+-- Used at both widths by codes, context, compress and decompress.
 use Prim.Native.Nat.{ℕ, _+_, _-_, _%_, _^_}
 use mathlib.Core.Bool.{Bool, _||_}
 use lib.Dec.{ltb, leb}

@@ -90,7 +90,7 @@ module _ (t : compressor.Table) (p output : List ℕ) where
 
 ---- A packet on context i
 
--- a link packet of type 1, 2 or 3 is on the context that it names
+-- what is not plain counts for the context that its bytes name
 frame-named : (k : Kind) (bytes : List ℕ)
     → frameContext (record { kind = kindNumber k; bytes = bytes }) ≡ some (named (kindNumber k) bytes)
 frame-named FullHeader bytes = refl

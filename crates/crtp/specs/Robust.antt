@@ -57,7 +57,7 @@ sentAt w i = getD (w .sent) i (record { packet = []; kind = 0; bytes = [] })
 abbrev pub answer : World → (i : ℕ) (output : Bytes) → receiving.Result
 answer w i output = receiveOf (w .decompressor) (sentAt w i .kind) (sentAt w i .bytes) (output .list)
 
--- each call gets the table that the last call at its end returned, refused or not
+-- an end goes on with what its call before left behind, whether that one was refused or not
 abbrev pub step : World → Call → World
 step w (send p output) =
     let r = sendOf (w .compressor) (p .list) (output .list) in
@@ -103,7 +103,7 @@ lost (other ∷ xs) i size = lost xs i size
 
 ---- How many may be lost (rule 10.4)
 
--- of the packets on one context number, in the order sent, which are lost; i: the first one's number
+-- a mark for each packet of a context number, as they were sent: whether it is lost; i: the first one's number
 abbrev pub losses : (context : ℕ) → List Call → (i : ℕ) → List Sent → List Bool
 losses c xs i [] = []
 losses c xs i (e ∷ es) =
@@ -131,7 +131,7 @@ Exact all w (arrival i output ∷ xs) =
     × Exact all (step w (arrival i output)) xs
 Exact all w (other ∷ xs) = Exact all w xs
 
--- both tables as accepted openings with the same settings left them, whatever was there before
+-- both ends were opened with these settings and accepted them, whatever their tables held before
 pub record Opened (s : Settings) (w : World) : Type 0 where
   pub earlierC : compressor.Table
   pub earlierD : decompressor.Table

@@ -10,6 +10,12 @@ mod stream;
 fn main() {
     let sender = crtp::open_compressor(crtp::no_compressor(), 2, 4);
     let receiver = crtp::open_decompressor(crtp::no_decompressor(), 2, 4);
-    let count = run::all(sender.table, receiver.table);
+    let compressor = sender.table;
+    let decompressor = receiver.table;
+    let count = run::all(run::Run {
+        compressor: compressor,
+        decompressor: decompressor,
+        count: show::nothing(),
+    });
     show::summary(count);
 }

@@ -1,4 +1,4 @@
-use packet::header::Header;
+use crate::stream::Fields;
 
 // What was counted.
 //
@@ -9,6 +9,15 @@ pub struct Count {
     pub after: u32,
     pub arrived: u32,
     pub rebuilt: u32,
+}
+
+pub fn nothing() -> Count {
+    Count {
+        before: 0,
+        after: 0,
+        arrived: 0,
+        rebuilt: 0,
+    }
 }
 
 fn text(s: &[u8]) {
@@ -39,17 +48,21 @@ fn print_kind(kind: u8) {
     }
 }
 
-// What went in, its link type, and the bytes of its header before and on the link.
-pub fn print_sent(i: u32, h: Header, kind: u8, before: u32, after: u32) {
-    column(i);
+fn print_fields(f: Fields) {
     text(b"  sequence ");
-    number(h.rtp.sequence as u32);
+    number(f.sequence);
     text(b"  timestamp ");
-    number(h.rtp.timestamp);
+    number(f.timestamp);
     text(b"  payload type ");
-    column(h.rtp.payload as u32);
+    column(f.payload);
     text(b"  CSRC ");
-    number(h.csrc.count as u32);
+    number(f.sources);
+}
+
+// What went in, its link type, and the bytes of its header before and on the link.
+pub fn print_sent(i: u32, f: Fields, kind: u8, before: u32, after: u32) {
+    column(i);
+    print_fields(f);
     text(b"  ");
     print_kind(kind);
     text(b"  header ");
@@ -58,8 +71,8 @@ pub fn print_sent(i: u32, h: Header, kind: u8, before: u32, after: u32) {
     column(after);
 }
 
-pub fn print_fate(arrived: bool, exact: bool) {
-    if !arrived {
+pub fn print_fate(lost: bool, exact: bool) {
+    if lost {
         text(b"  lost\n");
     } else if exact {
         text(b"  rebuilt exactly\n");
