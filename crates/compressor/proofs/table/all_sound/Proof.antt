@@ -55,8 +55,8 @@ loop-again c =
       l .inv .0,
       l .inv .1,
       rw (c .before .sound-context .ensures, c .is-empty .ensures)
-          (l .inv .2 ∙ both-step (soundCompressor (a .t1 .settings .repeats)) isEmpty (a .t1 .contexts) (a .t1 .settings .contexts) (l .i)
-          (l .ok) noContext (omega arith)),
+          (l .inv .2 ∙ both-step (soundCompressor (a .t1 .settings .repeats)) isEmpty (a .t1 .contexts)
+          (a .t1 .settings .contexts) (l .i) (l .ok) noContext (omega arith)),
     )
 
 returns : tie.Need-returns Inv-loop μ-loop

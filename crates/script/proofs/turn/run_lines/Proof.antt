@@ -6,7 +6,9 @@ use Rattle.script.proofs.turn.run_lines.Statement.{statement}
 use Rattle.script.proofs.turn.run_lines.Tie as tie
 
 abbrev Inv-loop : tie.InvT-loop
-Inv-loop buf₀ text₀ state₀ turns₀ buf text state turns = (state .start ≤ state .filled) × (state .filled ≤ length buf) × (length buf ≡ length buf₀) × (length text ≡ length text₀)
+Inv-loop buf₀ text₀ state₀ turns₀ buf text state turns =
+    (state .start ≤ state .filled) × (state .filled ≤ length buf) × (length buf ≡ length buf₀) ×
+    (length text ≡ length text₀)
 
 abbrev μ-loop : tie.MeasureT-loop
 μ-loop buf₀ text₀ state₀ turns₀ buf text state turns = turns

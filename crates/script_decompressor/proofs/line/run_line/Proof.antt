@@ -40,7 +40,9 @@ put-written-requires c κs = search needs
 
 -- src/line.rt:50:20
 written-requires : tie.Need-written-requires
-written-requires c κs = rw (c .before .before .before .before .before .e .given .1) at (c .before .before .before .before .before .before .before .before .read-line .ensures)
+written-requires c κs =
+    rw (c .before .before .before .before .before .e .given .1) at
+    (c .before .before .before .before .before .before .before .before .read-line .ensures)
 
 -- src/line.rt:52:21
 enum-known-i : tie.Need-enum-known-i
