@@ -1,3 +1,4 @@
+pub mod Numbers
 pub mod Difference
 pub mod DifferenceLaws
 pub mod Bytes

@@ -5,6 +5,7 @@ use mathlib.Core.Bool.{Bool, cond, _&&_}
 use mathlib.Core.List.{List, [], _∷_}
 use lib.Dec.{eqb, leb, ltb}
 use lib.ListN.{length, getD}
+use Rattle.codes.specs.Numbers.{cut, unusedCode}
 use Rattle.codes.specs.Code.{Row, rows, among}
 use Rattle.codes.specs.declared.cursor.ReadByte.{ReadByte}
 use Rattle.codes.specs.declared.cursor.ReadByte.the-variants as r8
@@ -54,7 +55,7 @@ longAt s at = wordAt s at * 65536 + (byteAt s (at + 2) * 256 + byteAt s (at + 3)
 
 -- a field of n bytes with the value v: 4 where it is cut short
 abbrev pub fieldAt : List ℕ → (at n v : ℕ) → Reading
-fieldAt s at n v = cond (has s at n) (accepted v (at + n)) (refused 4)
+fieldAt s at n v = cond (has s at n) (accepted v (at + n)) (refused cut)
 
 unfoldable pub readByte : List ℕ → ℕ → Reading
 readByte s at = fieldAt s at 1 (byteAt s at)
@@ -69,14 +70,14 @@ readLong s at = fieldAt s at 4 (longAt s at)
 
 -- the difference, reduced modulo m, whose code is the number c of so many bytes; 7 where no row has that code
 abbrev pub valueIn : List Row → (m size c past : ℕ) → Reading
-valueIn [] m size c past = refused 7
+valueIn [] m size c past = refused unusedCode
 valueIn (r ∷ rs) m size c past =
     cond (eqb (r .size) size && among (r .code) (r .count) c) (accepted ((r .first + (c - r .code)) % m) past)
     (valueIn rs m size c past)
 
 -- a code of so many bytes: 4 where it is cut short
 abbrev pub codeAt : (m : ℕ) → List ℕ → (at size c : ℕ) → Reading
-codeAt m s at size c = cond (has s at size) (valueIn (rows m) m size c (at + size)) (refused 4)
+codeAt m s at size c = cond (has s at size) (valueIn (rows m) m size c (at + size)) (refused cut)
 
 -- a code has one byte where its first is below 80, two where it is below C0, else three
 unfoldable pub readBy : (m : ℕ) → List ℕ → ℕ → Reading
@@ -92,29 +93,29 @@ readDelta w s at = readBy (2 ^ w) s at
 
 abbrev pub ofByte : ReadByte → Reading
 ofByte (r8.Byte v c) = accepted v (c .at)
-ofByte r8.Cut = refused 4
+ofByte r8.Cut = refused cut
 
 abbrev pub ofWord : ReadWord → Reading
 ofWord (r16.Word v c) = accepted v (c .at)
-ofWord r16.Cut = refused 4
+ofWord r16.Cut = refused cut
 
 abbrev pub ofLong : ReadLong → Reading
 ofLong (r32.Long v c) = accepted v (c .at)
-ofLong r32.Cut = refused 4
+ofLong r32.Cut = refused cut
 
 abbrev pub ofDelta16 : ReadDelta16 → Reading
 ofDelta16 (d16.Delta v c) = accepted v (c .at)
-ofDelta16 d16.Cut = refused 4
-ofDelta16 d16.Unused = refused 7
+ofDelta16 d16.Cut = refused cut
+ofDelta16 d16.Unused = refused unusedCode
 
 abbrev pub ofDelta32 : ReadDelta32 → Reading
 ofDelta32 (d32.Delta v c) = accepted v (c .at)
-ofDelta32 d32.Cut = refused 4
-ofDelta32 d32.Unused = refused 7
+ofDelta32 d32.Cut = refused cut
+ofDelta32 d32.Unused = refused unusedCode
 
 -- a code not yet reduced, at a field of modulus m: so much up or down
 abbrev pub ofCode : (m : ℕ) → ReadCode → Reading
 ofCode m (raw.Up v c) = accepted (v % m) (c .at)
 ofCode m (raw.Down v c) = accepted ((m - v) % m) (c .at)
-ofCode m raw.Cut = refused 4
-ofCode m raw.Unused = refused 7
+ofCode m raw.Cut = refused cut
+ofCode m raw.Unused = refused unusedCode

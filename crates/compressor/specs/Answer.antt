@@ -5,6 +5,7 @@ use mathlib.Core.Bool.{cond}
 use mathlib.Core.List.{List}
 use lib.Dec.{ltb}
 use lib.ListN.{length}
+use Rattle.codes.specs.Numbers.{noRoom}
 use Rattle.bytes.specs.Put.{fronted}
 use Rattle.packet.specs.Refusal as refusal
 use Rattle.compressor.specs.declared.answer.Outcome.{Outcome}
@@ -30,7 +31,7 @@ refused t n output = record { number = n; kind = 0; length = 0; output = output;
 
 -- 11 where the output is shorter than the exact result
 abbrev pub delivered : (before after : Table) → (kind : ℕ) → (bytes output : List ℕ) → Result
-delivered before after k bytes output = cond (ltb (length output) (length bytes)) (refused before 11 output)
+delivered before after k bytes output = cond (ltb (length output) (length bytes)) (refused before noRoom output)
     (accepted after k bytes output)
 
 ---- number and values of each outcome

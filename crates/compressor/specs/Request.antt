@@ -4,6 +4,7 @@ use Prim.Native.Nat.{ℕ, zero, suc}
 use mathlib.Core.Bool.{Bool, cond}
 use mathlib.Core.List.{List, []}
 use lib.ListN.{getD, set}
+use Rattle.codes.specs.Numbers.{unsound}
 use Rattle.packet.specs.declared.refusal.Verdict.{Verdict}
 use Rattle.packet.specs.declared.refusal.Verdict.the-variants.{Accepted, Refused}
 use Rattle.packet.specs.Refusal.{numberOf}
@@ -33,4 +34,4 @@ requestBy (Refused r) t s = refused t (numberOf r) []
 
 -- rule 9.2: 1, then by the bytes
 unfoldable pub requestOf : Table → List ℕ → Result
-requestOf t s = cond (soundOf t) (requestBy (requestJudged (t .settings .contexts) s) t s) (refused t 1 [])
+requestOf t s = cond (soundOf t) (requestBy (requestJudged (t .settings .contexts) s) t s) (refused t unsound [])

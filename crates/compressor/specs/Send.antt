@@ -4,6 +4,7 @@ use Prim.Native.Nat.{ℕ}
 use mathlib.Core.Bool.{cond}
 use mathlib.Core.List.{List, _++_}
 use lib.ListN.{length, drop}
+use Rattle.codes.specs.Numbers.{unsound, badLength}
 use Rattle.packet.specs.declared.header.Header.{Header}
 use Rattle.headers.specs.Header.{headerOf, headerSize}
 use Rattle.headers.specs.Compressible.{compressible}
@@ -48,5 +49,5 @@ sendOf t p output =
     cond (soundOf t)
     (cond (lengthAllowed (length p))
     (cond (compressible p) (sendTo (placeOf t (headerOf p .flow)) t p output) (sendPlain t p output))
-    (refused t 2 output))
-    (refused t 1 output)
+    (refused t badLength output))
+    (refused t unsound output)

@@ -5,6 +5,7 @@ use mathlib.Core.Bool.{Bool, true, false, cond, _&&_}
 use mathlib.Core.List.{List, [], _∷_, _++_}
 use lib.Dec.{eqb, leb, ltb}
 use lib.ListN.{length, drop}
+use Rattle.codes.specs.Numbers.{unsound, badLength, unknownType, cut, noSuchContext, notLive, tooLong}
 use Rattle.codes.specs.Reading.{byteAt}
 use Rattle.packet.specs.declared.header.Header.{Header}
 use Rattle.fields.specs.declared.place.Place.{Place}
@@ -64,7 +65,7 @@ receiveFull t s output = receiveFullBy (fhJudged (t .settings .contexts) s) t (f
 abbrev pub rebuildTo : (before : Table) → (i : ℕ) → DecompressorContext → (sent : ℕ) → (rest output : List ℕ) → Result
 rebuildTo before i c sent rest output =
     cond (ltb 1500 (headerSize (rebuilt c sent) + length rest))
-    (refused before 10 output)
+    (refused before tooLong output)
     (delivered before (withContext before i c) (packetOf (rebuilt c sent) rest) output)
 
 -- what its context made of it: 8 and 9 leave the context broken
@@ -110,8 +111,8 @@ module _ (old : OldForm) where
 
   -- rule 3.1: 8 for a context that is not live, which it leaves broken
   abbrev pub receiveOn : Status → (kind : ℕ) → Table → (i : ℕ) → Head → (s output : List ℕ) → Result
-  receiveOn Empty kind t i h s output = refused (withContext t i (broke (contextAt t i))) 8 output
-  receiveOn Broken kind t i h s output = refused (withContext t i (broke (contextAt t i))) 8 output
+  receiveOn Empty kind t i h s output = refused (withContext t i (broke (contextAt t i))) notLive output
+  receiveOn Broken kind t i h s output = refused (withContext t i (broke (contextAt t i))) notLive output
   receiveOn Live kind t i h s output = cond (eqb kind 2) (receiveUdp t i h s output) (receiveRtp t i h s output)
 
   -- rule 3.3: 6, then 4 where there is no flag byte
@@ -120,8 +121,8 @@ module _ (old : OldForm) where
       cond (ltb (contextOf s) (t .settings .contexts))
       (cond (isAccepted (headOf s .place .verdict))
       (receiveOn (contextAt t (contextOf s) .status) kind t (contextOf s) (headOf s) s output)
-      (refused t 4 output))
-      (refused t 6 output)
+      (refused t cut output))
+      (refused t noSuchContext output)
 
   ---- By type
 
@@ -134,8 +135,8 @@ module _ (old : OldForm) where
   unfoldable pub receiveBy : Table → (kind : ℕ) → (s output : List ℕ) → Result
   receiveBy t kind s output =
       cond (soundOf t)
-      (cond (leb kind 3) (cond (lengthAllowed (length s)) (receiveKind kind t s output) (refused t 2 output)) (refused t 3 output))
-      (refused t 1 output)
+      (cond (leb kind 3) (cond (lengthAllowed (length s)) (receiveKind kind t s output) (refused t badLength output)) (refused t unknownType output))
+      (refused t unsound output)
 
 -- the decompressor's own receive
 abbrev pub receiveOf : Table → (kind : ℕ) → (s output : List ℕ) → Result

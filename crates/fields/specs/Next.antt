@@ -5,6 +5,7 @@ use mathlib.Core.Bool.{Bool, true, cond, _&&_}
 use mathlib.Core.List.{List}
 use lib.Dec.{eqb, ltb}
 use lib.ListN.{set}
+use Rattle.codes.specs.Numbers.{cut, forbidden}
 use Rattle.codes.specs.Reading.{Reading, refused, has, readByte, readWord, readLong, readDelta}
 use Rattle.headers.specs.Rtp.{rtpFirstOf}
 use Rattle.packet.specs.Csrc.{noList}
@@ -31,7 +32,7 @@ next read p wanted = cond (isAccepted (p .verdict) && wanted) (taken p (read (p 
 ---- fields whose form is judged, once they are there (rule 3.4)
 
 abbrev pub formed : (ℕ → Bool) → Reading → Reading
-formed ok r = cond (eqb (r .number) 0) (cond (ok (r .value)) r (refused 5)) r
+formed ok r = cond (eqb (r .number) 0) (cond (ok (r .value)) r (refused forbidden)) r
 
 -- rule 6.3: a payload type has its top bit 0
 unfoldable pub readPayload : List ℕ → ℕ → Reading
@@ -39,7 +40,7 @@ readPayload s at = formed (λ v. ltb v 128) (readByte s at)
 
 -- rules 3.4, 6.3: the first byte of an RTP header, whose twelve fixed bytes are one field
 unfoldable pub readVersion : List ℕ → ℕ → Reading
-readVersion s at = cond (has s at 12) (formed (λ v. eqb (rtpFirstOf v .version) 2) (readByte s at)) (refused 4)
+readVersion s at = cond (has s at 12) (formed (λ v. eqb (rtpFirstOf v .version) 2) (readByte s at)) (refused cut)
 
 ---- the steps
 

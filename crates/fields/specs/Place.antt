@@ -3,6 +3,7 @@
 use Prim.Native.Nat.{ℕ}
 use mathlib.Core.Bool.{Bool, true, false, cond}
 use lib.Dec.{eqb}
+use Rattle.codes.specs.Numbers.{cut, forbidden}
 use Rattle.packet.specs.declared.refusal.Verdict.{Verdict}
 use Rattle.packet.specs.declared.refusal.Verdict.the-variants.{Accepted, Refused}
 use Rattle.packet.specs.declared.refusal.Refusal.the-variants.{Cut, Forbidden, UnusedCode}
@@ -13,7 +14,7 @@ use Rattle.fields.specs.declared.place.Got32.{Got32}
 
 -- rule 3.1: what a reader's answer with this number says of the field
 abbrev pub verdictOf : ℕ → Verdict
-verdictOf n = cond (eqb n 0) Accepted (Refused (cond (eqb n 4) Cut (cond (eqb n 5) Forbidden UnusedCode)))
+verdictOf n = cond (eqb n 0) Accepted (Refused (cond (eqb n cut) Cut (cond (eqb n forbidden) Forbidden UnusedCode)))
 
 -- a reading that stands at a place, and one that was refused there
 abbrev pub stopped : ℕ → Verdict → Place

@@ -3,6 +3,8 @@
 -- Used by everything that judges, and by the answers of every call.
 use Prim.Native.Nat.{ℕ}
 use mathlib.Core.Bool.{Bool, true, false}
+use Rattle.codes.specs.Numbers.{unsound, badLength, unknownType, cut, forbidden, noSuchContext, unusedCode}
+use Rattle.codes.specs.Numbers.{notLive, outOfStep, tooLong, noRoom}
 use Rattle.packet.specs.declared.refusal.Refusal.{Refusal}
 use Rattle.packet.specs.declared.refusal.Refusal.the-variants.{Unsound, BadLength, UnknownType, Cut, Forbidden, NoSuchContext}
 use Rattle.packet.specs.declared.refusal.Refusal.the-variants.{UnusedCode, NotLive, OutOfStep, TooLong, NoRoom}
@@ -10,17 +12,17 @@ use Rattle.packet.specs.declared.refusal.Verdict.{Verdict}
 use Rattle.packet.specs.declared.refusal.Verdict.the-variants.{Accepted, Refused}
 
 abbrev pub numberOf : Refusal → ℕ
-numberOf Unsound = 1
-numberOf BadLength = 2
-numberOf UnknownType = 3
-numberOf Cut = 4
-numberOf Forbidden = 5
-numberOf NoSuchContext = 6
-numberOf UnusedCode = 7
-numberOf NotLive = 8
-numberOf OutOfStep = 9
-numberOf TooLong = 10
-numberOf NoRoom = 11
+numberOf Unsound = unsound
+numberOf BadLength = badLength
+numberOf UnknownType = unknownType
+numberOf Cut = cut
+numberOf Forbidden = forbidden
+numberOf NoSuchContext = noSuchContext
+numberOf UnusedCode = unusedCode
+numberOf NotLive = notLive
+numberOf OutOfStep = outOfStep
+numberOf TooLong = tooLong
+numberOf NoRoom = noRoom
 
 abbrev pub verdictNumber : Verdict → ℕ
 verdictNumber Accepted = 0

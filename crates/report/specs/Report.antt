@@ -3,6 +3,7 @@
 use Prim.Native.Nat.{ℕ, suc}
 use mathlib.Core.Bool.{Bool, true, false, cond}
 use mathlib.Core.List.{List, [], _∷_}
+use Rattle.codes.specs.Numbers.{unsound}
 use Rattle.links.specs.Cs.{State, csBytes}
 use Rattle.context.specs.declared.decompressor.Status.{Status}
 use Rattle.context.specs.declared.decompressor.Status.the-variants.{Empty, Live, Broken}
@@ -42,4 +43,4 @@ reportBytes t = reportOn (statesFrom 0 (t .contexts))
 
 -- rule 9.1: 1, 11
 unfoldable pub reportOf : Table → (output : List ℕ) → Result
-reportOf t output = cond (soundOf t) (delivered t t (reportBytes t) output) (refused t 1 output)
+reportOf t output = cond (soundOf t) (delivered t t (reportBytes t) output) (refused t unsound output)

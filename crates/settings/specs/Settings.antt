@@ -4,6 +4,7 @@
 use Prim.Native.Nat.{ℕ}
 use mathlib.Core.Bool.{Bool, cond, _&&_}
 use lib.Dec.{leb}
+use Rattle.codes.specs.Numbers.{unsound}
 use Rattle.settings.specs.declared.Settings.{Settings}
 use Rattle.settings.specs.declared.Opened.{Opened}
 use Rattle.settings.specs.declared.Opened.the-variants.{Accepted, Refused}
@@ -26,7 +27,7 @@ openOf n k = cond (inRange n k) (Accepted (record { repeats = n; contexts = k })
 -- rule 3.1: the number of the answer
 abbrev pub numberOf : Opened → ℕ
 numberOf (Accepted s) = 0
-numberOf Refused = 1
+numberOf Refused = unsound
 
 -- the settings that an answer gives; a refusal gives none, and whoever asked keeps his own
 abbrev pub settingsOr : Settings → Opened → Settings
