@@ -9,6 +9,7 @@ use Rattle.packet.specs.declared.refusal.Refusal.the-variants.{UnusedCod
 use Rattle.packet.specs.declared.refusal.Verdict.{Verdict}
 use Rattle.packet.specs.declared.refusal.Verdict.the-variants.{Accepted, Refused}
 
+-- rule 3.1
 abbrev pub numberOf : Refusal → ℕ
 numberOf Unsound = 1
 numberOf BadLength = 2
@@ -22,6 +23,7 @@ numberOf OutOfStep = 9
 numberOf TooLong = 10
 numberOf NoRoom = 11
 
+-- rule 3.1: 0 where it is accepted
 abbrev pub verdictNumber : Verdict → ℕ
 verdictNumber Accepted = 0
 verdictNumber (Refused r) = numberOf r
