@@ -61,7 +61,7 @@ pub fn put32(bytes: &mut [u8], at: usize, value: u32) {
     bytes[at..at + 4].copy_from_slice(&value.to_be_bytes());
 }
 
-/// Writes the result at the front of the output, or nothing at all if there is no room for it.
+/// Writes the result from the first byte of the output on, or nothing at all if there is no room for it.
 pub fn deliver(output: &mut [u8], front: &[u8], rest: &[u8]) -> Result<usize, Refusal> {
     let length = front.len() + rest.len();
     if output.len() < length {
@@ -72,8 +72,8 @@ pub fn deliver(output: &mut [u8], front: &[u8], rest: &[u8]) -> Result<usize, Re
     Ok(length)
 }
 
-/// The checksum an IP header of 20 bytes must carry: complement of the folded sum of the other
-/// nine words.
+/// The checksum an IP header of 20 bytes must carry: its words but the checksum, nine of them, are
+/// summed, the sum is folded to 16 bits, and those are inverted.
 pub fn ip_checksum(header: &[u8]) -> u16 {
     let mut sum: u32 = 0;
     for word in (0..20).step_by(2).filter(|&at| at != 10) {

@@ -132,8 +132,8 @@ pub fn parse(packet: &[u8]) -> Header {
     }
 }
 
-/// Builds the headers for a packet with `rest` bytes after the CSRC list. Lengths and IP checksum
-/// are worked out. The whole must fit 16 bits of length.
+/// Builds the headers for a packet with `rest` bytes after the CSRC list, computing the IP checksum
+/// and both lengths. The whole must fit 16 bits of length.
 pub fn build(header: &Header, rest: usize) -> Vec<u8> {
     let fields = &header.fields;
     let cc = usize::from(fields.cc);

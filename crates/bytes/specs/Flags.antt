@@ -1,4 +1,4 @@
--- Iarwennol. The flag byte, its bits from the top down (rules 6.2, 6.3, 6.6).
+-- Iarwennol. The flag byte, its bits from the top down (rules 6.2, 6.3, 6.6, 6.7).
 -- Used by the link layouts (links), each of which names the bits.
 use Prim.Native.Nat.{ℕ, _+_, _*_, _/_, _%_, _^_}
 use mathlib.Core.Bool.{Bool, true, false}
@@ -13,6 +13,7 @@ abbrev pub digit : Bool → ℕ
 digit true = 1
 digit false = 0
 
+-- rule 6.7: four bits from the top down, and the number that the other four are
 abbrev pub flagsOf : ℕ → Flags
 flagsOf b = record { bit7 = bitAt 7 b; bit6 = bitAt 6 b; bit5 = bitAt 5 b; bit4 = bitAt 4 b; low = b % 16 }
 

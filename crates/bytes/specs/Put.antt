@@ -14,7 +14,7 @@ pub record Wrote (before after : List ℕ) (at past : ℕ) (bs : List ℕ) : Typ
   pub ends : past ≡ at + length bs
   pub holds : after ≡ sets before at bs
 
--- a list with bs at its front: the bytes after them stay (rule 3.5)
+-- rule 3.5: a list with bs at its front: the bytes after them stay
 abbrev pub fronted : List ℕ → List ℕ → List ℕ
 fronted l bs = bs ++ drop (length bs) l
 
@@ -22,11 +22,11 @@ fronted l bs = bs ++ drop (length bs) l
 abbrev pub optional : Bool → List ℕ → List ℕ
 optional wanted bs = cond wanted bs []
 
--- the bytes of words of 32 bits
+-- rule 6.7: the bytes of words of 32 bits
 abbrev pub words : List ℕ → List ℕ
 words [] = []
 words (w ∷ ws) = bigEndian 4 w ++ words ws
 
--- the words of a CSRC list, as many as its count says
+-- rules 6.2, 6.3: the words of a CSRC list, as many as its count says
 abbrev pub listBytes : Csrc → List ℕ
 listBytes l = words (take (l .count) (l .words))

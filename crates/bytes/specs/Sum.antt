@@ -3,7 +3,7 @@
 use Prim.Native.Nat.{ℕ, zero, suc, _+_, _-_, _*_, _/_, _%_, _<_}
 use mathlib.Core.List.{List, [], _∷_}
 
--- two numbers of 16 bits added, the carry at the low end
+-- rule 5.2: two numbers of 16 bits added in ones' complement, the carry at the low end
 unfoldable pub plus : ℕ → ℕ → ℕ
 plus a b = (a + b) % 65536 + (a + b) / 65536
 
@@ -18,7 +18,7 @@ abbrev pub sumOf : ℕ → List ℕ → ℕ
 sumOf start [] = start
 sumOf start (w ∷ ws) = sumOf (plus start w) ws
 
--- what stands in a checksum's place
+-- rule 5.2: what stands in a checksum's place
 abbrev pub complement : ℕ → ℕ
 complement x = 65535 - x
 

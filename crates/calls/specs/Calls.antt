@@ -13,9 +13,9 @@ use lib.Seq.{slice}
 
 ---- Calls, and the world that they find
 
--- A send; a request; the arrival of what the i-th accepted send gave out (the first is the 0th). At the decompressor also: a save
--- of its table; a load of what the i-th accepted save gave out, handed any table. And a call that leaves both tables, as a report
--- does, or one at another pair of ends.
+-- Rule 10.1: a send; a request; the arrival of what the i-th accepted send gave out (the first is the 0th). At the decompressor
+-- also: a save of its table; a load of what the i-th accepted save gave out, handed any table. And a call that leaves both tables,
+-- as a report does, or one at another pair of ends.
 pub data Call (P B Q D : Type 0) : Type 0 where
   sendCall : (p : P) (b : B) → Call P B Q D
   requestCall : (q : Q) → Call P B Q D
@@ -81,12 +81,12 @@ abbrev pub has : List ℕ → ℕ → Bool
 has [] m = false
 has (k ∷ ks) m = cond (eqb k m) true (has ks m)
 
--- A table has lost every packet that is not in its line: one that did not arrive, one that arrived without room, and one that
--- arrived only on the way to a table that a load has since put away.
+-- A table has lost every packet that is not in its line: one that did not arrive and one that arrived without room (rule 10.3), and
+-- one that arrived only on the way to a table that a load has since put away.
 abbrev pub lost : (line : List ℕ) → ℕ → Bool
 lost line m = not (has line m)
 
--- n + 1 next to each other are never all lost
+-- rule 10.4: at most n in a row are lost
 abbrev pub Bounded : ℕ → List Bool → Type 0
 Bounded n ms = (a b : List Bool) → ms ≡ a ++ (replicate (suc n) true ++ b) → ⊥
 
@@ -95,7 +95,7 @@ abbrev pub Gap : List Bool → Type 0
 Gap ms = (a : List Bool) × (ms ≡ a ++ (true ∷ []))
 
 module _ {P L B Q F C D SA RA : Type 0} (ε : Ends P L B Q F C D SA RA) where
-  -- of the packets on context c, in the order sent, which are gone; i: the first one's number
+  -- rule 10.4: of the packets on context c, in the order sent, which are gone; i: the first one's number
   abbrev pub losses : (c : ℕ) (gone : ℕ → Bool) (i : ℕ) → List (Sent P L) → List Bool
   losses c gone i [] = []
   losses c gone i (e ∷ es) = cond (isOn (ε .context (e .link)) c) (gone i ∷ losses c gone (suc i) es) (losses c gone (suc i) es)
@@ -115,11 +115,11 @@ module _ {P L B Q F C D SA RA : Type 0} (ε : Ends P L B Q F C D SA RA) where
   abbrev pub saveAt : World P L F C D → ℕ → Save F
   saveAt w i = getD (w .saves) i (record { form = ε .noForm; line = [] })
 
-  -- an arrival's answer
+  -- rule 10.2: an arrival's answer: the decompressor is handed what the send gave out
   abbrev pub arrived : World P L F C D → (i : ℕ) (b : B) → RA
   arrived w i b = ε .receive (w .decompressor) (linkAt w i) b
 
-  -- the two ends after a call
+  -- rule 10.1: the two ends after a call
   abbrev pub step : World P L F C D → Call P B Q D → World P L F C D
   step w (sendCall p b) =
       let o = ε .send (w .compressor) p b in
@@ -177,10 +177,10 @@ module _ {P L B Q F C D SA RA : Type 0} (ε : Ends P L B Q F C D SA RA) where
   ---- The premises, as to context c, counting the packets from number `from` on
 
   pub record Proper (n from c : ℕ) (w : World P L F C D) (i : ℕ) : Type 0 where
-    -- the send was accepted and came before it; what was sent later has not arrived yet, nor this one before
+    -- rule 10.2: the send was accepted and came before it; what was sent later has not arrived yet, nor this one before
     pub sent : i < length (w .log)
     pub order : w .next ≤ i
-    -- of the packets on c sent before it n + 1 next to each other are not all lost
+    -- rule 10.4: of the packets on c sent before it at most n in a row are lost
     pub bounded : Bounded n (lossesAt from c w i)
     -- on c, right after a gap, it is fit for that
     pub fit : isOn (ε .context (linkAt w i)) c ≡ true → Gap (lossesAt from c w i) → ε .Fit (packetAt w i)
@@ -210,7 +210,7 @@ module _ {P L B Q F C D SA RA : Type 0} (ε : Ends P L B Q F C D SA RA) where
   AtArrival R w (loadCall i d) = Unit {0}
   AtArrival R w otherCall = Unit {0}
 
-  -- with room it is right
+  -- rule 10.5: with room it is right
   abbrev pub Exact : World P L F C D → (i : ℕ) (b : B) → Type 0
   Exact w i b = ε .size (packetAt w i) ≤ ε .room b → ε .Right (packetAt w i) (arrived w i b)
 
@@ -221,7 +221,7 @@ module _ {P L B Q F C D SA RA : Type 0} (ε : Ends P L B Q F C D SA RA) where
   abbrev pub fresh : C → D → World P L F C D
   fresh s v = record { compressor = s; log = []; decompressor = v; line = []; saves = []; next = 0 }
 
-  -- From two tables on: a list that is allowed as to every context number has every arrival with room right.
+  -- Rules 10.1 to 10.5, from two tables on: a list that is allowed as to every context number has every arrival with room right.
   abbrev pub Faithful : ℕ → C → D → Type 0
   Faithful n s v = (xs : List (Call P B Q D)) →
       ((c : ℕ) → Always (Allowed n 0 c) (fresh s v) xs) → Always (AtArrival Exact) (fresh s v) xs

@@ -25,20 +25,20 @@ module _ {P L B Q F C D SA RA : Type 0} (ε : Ends P L B Q F C D SA RA) where
   arrivals (loadCall i d ∷ xs) = arrivals xs
   arrivals (otherCall ∷ xs) = arrivals xs
 
-  -- Whether the i-th packet, of that length when it went in, is lost. The first arrival of it or of one sent later decides:
-  -- if it is the packet itself, it is lost where the output is shorter than the packet; if it is a later one, it is lost.
+  -- Rule 10.3: whether the i-th packet, of that length when it went in, is lost. The first arrival of it or of one sent later
+  -- decides: if it is the packet itself, it is lost where the output is shorter than the packet; if it is a later one, it is lost.
   abbrev pub lostIn : List (Arrival B) → (i len : ℕ) → Bool
   lostIn [] i len = false
   lostIn (a ∷ ar) i len = cond (eqb (a .index) i) (ltb (ε .room (a .buffer)) len) (cond (ltb i (a .index)) true (lostIn ar i len))
 
-  -- the packets on context c in the order sent: which are lost. i is the first one's number
+  -- rule 10.4: the packets on context c in the order sent: which are lost. i is the first one's number
   abbrev pub marks : (c : ℕ) → List (Arrival B) → (i : ℕ) → List (Sent P L) → List Bool
   marks c ar i [] = []
   marks c ar i (e ∷ es) =
       cond (isOn (ε .context (e .link)) c) (lostIn ar i (ε .size (e .orig)) ∷ marks c ar (suc i) es) (marks c ar (suc i) es)
 
-  -- no saves and no loads; each arrival is of an accepted send earlier in the list; they come in the order of their sends, and
-  -- none twice. m: the first that may arrive
+  -- rule 10.2: an arrival is of a send that was accepted before it; what was sent first arrives first, and nothing twice. And there
+  -- are no saves and no loads. m: the first that may arrive
   abbrev pub Lawful : World P L F C D → (m : ℕ) → List (Call P B Q D) → Type 0
   Lawful w m [] = Unit {0}
   Lawful w m (sendCall p b ∷ xs) = Lawful (step ε w (sendCall p b)) m xs
@@ -48,7 +48,7 @@ module _ {P L B Q F C D SA RA : Type 0} (ε : Ends P L B Q F C D SA RA) where
   Lawful w m (loadCall i d ∷ xs) = ⊥
   Lawful w m (otherCall ∷ xs) = Lawful w m xs
 
-  -- each arrival that is not lost is right; ar: all the arrivals of the list
+  -- rule 10.5: each arrival that is not lost is right; ar: all the arrivals of the list
   abbrev pub ExactIn : List (Arrival B) → World P L F C D → List (Call P B Q D) → Type 0
   ExactIn ar w [] = Unit {0}
   ExactIn ar w (sendCall p b ∷ xs) = ExactIn ar (step ε w (sendCall p b)) xs
@@ -60,7 +60,7 @@ module _ {P L B Q F C D SA RA : Type 0} (ε : Ends P L B Q F C D SA RA) where
   ExactIn ar w (loadCall i d ∷ xs) = ExactIn ar (step ε w (loadCall i d)) xs
   ExactIn ar w (otherCall ∷ xs) = ExactIn ar w xs
 
-  -- the claim, from two tables on
+  -- rules 10.2 to 10.5: the claim, from two tables on
   abbrev pub Earlier : ℕ → C → D → Type 0
   Earlier n s v = (xs : List (Call P B Q D)) →
       Lawful (fresh ε s v) 0 xs →

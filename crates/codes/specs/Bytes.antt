@@ -15,7 +15,7 @@ abbrev pub areBytes : List ℕ → Bool
 areBytes [] = true
 areBytes (b ∷ bs) = ltb b 256 && areBytes bs
 
--- v as n bytes, the highest first
+-- rule 6.7: v as n bytes, the highest first
 abbrev pub bigEndian : (n v : ℕ) → List ℕ
 bigEndian zero v = []
 bigEndian (suc n) v = bigEndian n (v / 256) ++ (v % 256 ∷ [])

@@ -32,13 +32,13 @@ rows m =
 abbrev pub among : (first count x : ℕ) → Bool
 among first count x = leb first x && ltb x (first + count)
 
--- the bytes of the first row that has d: within a row, codes rise with the differences; none where no row has it
+-- rule 4.1: the bytes of the first row that has d: within a row, codes rise with the differences; none where no row has it
 abbrev pub codeIn : List Row → ℕ → List ℕ
 codeIn [] d = []
 codeIn (r ∷ rs) d = cond (among (r .first) (r .count) d) (bigEndian (r .size) (r .code + (d - r .first))) (codeIn rs d)
 
--- the code of a difference d of a field of w bits. The rows overlap only for 16 bits, where a difference from 49152 on
--- is found among the negative ones first (rule 4.3)
+-- rule 4.3: the code of a difference d of a field of w bits. The rows overlap only for 16 bits, where a difference from 49152 on
+-- is found among the negative ones first
 unfoldable pub codeOf : (w d : ℕ) → List ℕ
 codeOf w d = codeIn (rows (2 ^ w)) d
 

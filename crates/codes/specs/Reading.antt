@@ -20,7 +20,7 @@ use Rattle.codes.specs.declared.cursor.ReadDelta32.the-variants as d32
 use Rattle.codes.specs.declared.cursor.ReadCode.{ReadCode}
 use Rattle.codes.specs.declared.cursor.ReadCode.the-variants as raw
 
--- a reader's answer: its number, 0 where it is accepted; the value read; the place past it
+-- a reader's answer: its number (rule 3.1), 0 where it is accepted; the value read; the place past it
 pub record Reading : Type 0 where
   pub number : ℕ
   pub value : ℕ
@@ -38,7 +38,7 @@ refused n = record { number = n; value = 0; at = 0 }
 abbrev pub has : List ℕ → ℕ → ℕ → Bool
 has s at n = leb (at + n) (length s)
 
--- the byte at a place, 0 past the end, and the numbers of two, three and four bytes
+-- the byte at a place, 0 past the end, and the numbers of two, three and four bytes (rule 6.7)
 abbrev pub byteAt : List ℕ → ℕ → ℕ
 byteAt s at = getD s at 0
 
@@ -53,7 +53,7 @@ longAt s at = wordAt s at * 65536 + (byteAt s (at + 2) * 256 + byteAt s (at + 3)
 
 ---- numbers
 
--- a field of n bytes with the value v: 4 where it is cut short
+-- rule 3.4: a field of n bytes with the value v: 4 where it is cut short
 abbrev pub fieldAt : List ℕ → (at n v : ℕ) → Reading
 fieldAt s at n v = cond (has s at n) (accepted v (at + n)) (refused cut)
 
@@ -68,29 +68,30 @@ readLong s at = fieldAt s at 4 (longAt s at)
 
 ---- differences
 
--- the difference, reduced modulo m, whose code is the number c of so many bytes; 7 where no row has that code
+-- rules 4.1, 4.4: the difference, reduced modulo m, whose code is the number c of so many bytes; 7 where no row has that code
 abbrev pub valueIn : List Row → (m size c past : ℕ) → Reading
 valueIn [] m size c past = refused unusedCode
 valueIn (r ∷ rs) m size c past =
     cond (eqb (r .size) size && among (r .code) (r .count) c) (accepted ((r .first + (c - r .code)) % m) past)
     (valueIn rs m size c past)
 
--- a code of so many bytes: 4 where it is cut short
+-- rule 3.4: a code of so many bytes: 4 where it is cut short
 abbrev pub codeAt : (m : ℕ) → List ℕ → (at size c : ℕ) → Reading
 codeAt m s at size c = cond (has s at size) (valueIn (rows m) m size c (at + size)) (refused cut)
 
--- a code has one byte where its first is below 80, two where it is below C0, else three
+-- rule 4.1: a code has one byte where its first is below 80, two where it is below C0, else three
 unfoldable pub readBy : (m : ℕ) → List ℕ → ℕ → Reading
 readBy m s at =
     cond (ltb (byteAt s at) 0x80) (codeAt m s at 1 (byteAt s at))
     (cond (ltb (byteAt s at) 0xC0) (codeAt m s at 2 (wordAt s at)) (codeAt m s at 3 (tripleAt s at)))
 
--- a difference of a field of w bits
+-- rule 4.4: a difference of a field of w bits
 abbrev pub readDelta : (w : ℕ) → List ℕ → ℕ → Reading
 readDelta w s at = readBy (2 ^ w) s at
 
 ---- number and values of each answer of the cursor
 
+-- rule 3.1: 4 for what is cut short, 7 for an unused code
 abbrev pub ofByte : ReadByte → Reading
 ofByte (r8.Byte v c) = accepted v (c .at)
 ofByte r8.Cut = refused cut

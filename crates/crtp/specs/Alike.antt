@@ -1,5 +1,5 @@
--- Iarwennol. A corollary of robustness, stated: what an arrival rebuilds to depends on the sends and requests alone, not on what
--- else arrived or was lost. Its proof is `alike` (proofs/Alike.antt).
+-- Iarwennol. A corollary of robustness, stated (rule 10.6): what an arrival rebuilds to depends on the sends and requests alone,
+-- not on what else arrived or was lost. Its proof is `alike` (proofs/Alike.antt).
 use Prim.Native.Nat.{ℕ}
 use mathlib.Core.Path.{_≡_}
 use mathlib.Core.List.{List, [], _∷_, _++_}
@@ -32,8 +32,8 @@ pub record Same (r s : receiving.Result) : Type 0 where
   pub length : r .length ≡ s .length
   pub bytes : take (r .length) (r .output) ≡ take (s .length) (s .output)
 
--- two lists with the same sends and requests, each meeting the premises: an arrival of the same send that is accepted in both gives
--- the same packet
+-- rule 10.6: two lists with the same sends and requests, each meeting the premises: an arrival of the same send that is accepted in
+-- both gives out the same packet
 abbrev pub Alike : Type 0
 Alike =
     (s : Settings) (w v : World) (xs ys : List Call) → Premises s w xs → Premises s v ys → asked xs ≡ asked ys

@@ -24,17 +24,17 @@ pub record Bytes : Type 0 where
   pub list : List ℕ
   pub small : AllBytes list
 
----- The list of calls (rule 10.1)
+---- The list of calls
 
--- a send of any bytes; a request of any bytes; the arrival of what the i-th accepted send gave out (the first is the 0th); a call
--- that leaves both tables, as a report does. Sends and arrivals have an output of any length
+-- rule 10.1: a send of any bytes; a request of any bytes; the arrival of what the i-th accepted send gave out (the first is the
+-- 0th); a call that leaves both tables, as a report does. Sends and arrivals have an output of any length
 pub data Call : Type 0 where
   send : (packet output : Bytes) → Call
   request : (bytes : Bytes) → Call
   arrival : (i : ℕ) (output : Bytes) → Call
   other : Call
 
--- a packet that an accepted send was handed, with the link type and a copy of the bytes that it gave out
+-- a packet that an accepted send was handed, and what it gave out: link type and bytes
 pub record Sent : Type 0 where
   pub packet : List ℕ
   pub kind : ℕ
@@ -53,11 +53,11 @@ givenOut p r = cond (eqb (r .number) 0) (record { packet = p; kind = r .kind; by
 abbrev pub sentAt : World → ℕ → Sent
 sentAt w i = getD (w .sent) i (record { packet = []; kind = 0; bytes = [] })
 
--- what an arrival of it answers
+-- rule 10.2: what an arrival of it answers, which hands over the very type and bytes
 abbrev pub answer : World → (i : ℕ) (output : Bytes) → receiving.Result
 answer w i output = receiveOf (w .decompressor) (sentAt w i .kind) (sentAt w i .bytes) (output .list)
 
--- an end goes on with what its call before left behind, whether that one was refused or not
+-- rule 10.1: an end goes on with what its call before left behind, whether that one was refused or not
 abbrev pub step : World → Call → World
 step w (send p output) =
     let r = sendOf (w .compressor) (p .list) (output .list) in
@@ -71,10 +71,10 @@ abbrev pub after : World → List Call → World
 after w [] = w
 after w (x ∷ xs) = after (step w x) xs
 
----- Arrivals (rule 10.2)
+---- Arrivals
 
--- each is of an accepted send earlier in the list; they come in the order of their sends, and none twice. m: the first that may
--- arrive
+-- rule 10.2: each is of a send that was accepted before it; what was sent first arrives first, and nothing twice. m: the first that
+-- may arrive
 abbrev pub Ordered : World → (m : ℕ) → List Call → Type 0
 Ordered w m [] = Unit {0}
 Ordered w m (send p output ∷ xs) = Ordered (step w (send p output)) m xs
@@ -82,9 +82,9 @@ Ordered w m (request q ∷ xs) = Ordered (step w (request q)) m xs
 Ordered w m (arrival i output ∷ xs) = (m ≤ i) × (i < length (w .sent)) × Ordered (step w (arrival i output)) (suc i) xs
 Ordered w m (other ∷ xs) = Ordered w m xs
 
----- What is lost (rule 10.3)
+---- What is lost
 
--- the context number that a link packet carries, by its type: a plain one is on none
+-- rule 10.3: the context number that a link packet's bytes name, where its type has it; a plain one is on none
 abbrev pub contextOf : Sent → Option ℕ
 contextOf e = cond (eqb (e .kind) 0) none (cond (eqb (e .kind) 1) (some (getD (e .bytes) 3 0)) (some (getD (e .bytes) 0 0)))
 
@@ -92,8 +92,8 @@ abbrev pub isOn : Option ℕ → ℕ → Bool
 isOn none c = false
 isOn (some d) c = eqb d c
 
--- whether the i-th packet, of so many bytes, is lost: in the order of the list, the first arrival of it or of a later one decides.
--- Its own has less output than the packet that went in; or a later one comes first
+-- rule 10.3: whether the i-th packet, of so many bytes, is lost: in the order of the list, the first arrival of it or of a later
+-- one decides. It arrives with less output than it had bytes; or a later one comes first
 abbrev pub lost : List Call → (i size : ℕ) → Bool
 lost [] i size = false
 lost (send p output ∷ xs) i size = lost xs i size
@@ -101,27 +101,27 @@ lost (request q ∷ xs) i size = lost xs i size
 lost (arrival k output ∷ xs) i size = cond (eqb k i) (ltb (length (output .list)) size) (cond (ltb i k) true (lost xs i size))
 lost (other ∷ xs) i size = lost xs i size
 
----- How many may be lost (rule 10.4)
+---- How many may be lost
 
--- a mark for each packet of a context number, as they were sent: whether it is lost; i: the first one's number
+-- rule 10.4: a mark for each packet of a context number, as they were sent: whether it is lost; i: the first one's number
 abbrev pub losses : (context : ℕ) → List Call → (i : ℕ) → List Sent → List Bool
 losses c xs i [] = []
 losses c xs i (e ∷ es) =
     cond (isOn (contextOf e) c) (lost xs i (length (e .packet)) ∷ losses c xs (suc i) es) (losses c xs (suc i) es)
 
--- n + 1 next to each other are never all lost
+-- rule 10.4: at most n in a row are lost
 abbrev pub Bounded : ℕ → List Bool → Type 0
 Bounded n marks = (a b : List Bool) → marks ≡ a ++ (replicate (suc n) true ++ b) → ⊥
 
----- The claim (rule 10.5)
+---- The claim
 
--- accepted, with the length of the packet that went in, its bytes at the front of the output
+-- rule 10.5: accepted, with as many bytes as the packet that went in, and the same
 pub record Rebuilt (packet : List ℕ) (r : receiving.Result) : Type 0 where
   pub accepted : r .number ≡ 0
   pub whole : r .length ≡ length packet
   pub exact : take (length packet) (r .output) ≡ packet
 
--- every arrival that is not lost is rebuilt; all: the whole list
+-- rule 10.5: every arrival that is not lost is rebuilt; all: the whole list
 abbrev pub Exact : (all : List Call) → World → List Call → Type 0
 Exact all w [] = Unit {0}
 Exact all w (send p output ∷ xs) = Exact all (step w (send p output)) xs
@@ -131,7 +131,7 @@ Exact all w (arrival i output ∷ xs) =
     × Exact all (step w (arrival i output)) xs
 Exact all w (other ∷ xs) = Exact all w xs
 
--- both ends were opened with these settings and accepted them, whatever their tables held before
+-- rule 10.1: both ends were opened with these settings and accepted them, whatever their tables held before
 pub record Opened (s : Settings) (w : World) : Type 0 where
   pub earlierC : compressor.Table
   pub earlierD : decompressor.Table
@@ -141,10 +141,12 @@ pub record Opened (s : Settings) (w : World) : Type 0 where
   pub decompressor : w .decompressor ≡ decompressing.openOf earlierD (s .repeats) (s .contexts) .table
   pub nothing : w .sent ≡ []
 
+-- rules 10.1 to 10.4: all that is asked
 pub record Premises (s : Settings) (w : World) (xs : List Call) : Type 0 where
   pub opened : Opened s w
   pub ordered : Ordered w 0 xs
   pub bounded : (c : ℕ) → Bounded (s .repeats) (losses c xs 0 (after w xs .sent))
 
+-- rule 10.5: then every arrival that is not lost is rebuilt
 abbrev pub Robust : Type 0
 Robust = (s : Settings) (w : World) (xs : List Call) → Premises s w xs → Exact xs w xs

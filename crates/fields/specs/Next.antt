@@ -25,12 +25,13 @@ abbrev pub taken : Place → Reading → Step
 taken p r = cond (eqb (r .number) 0) (step (good (r .at)) true (r .value))
     (passed (stopped (p .cursor .at) (verdictOf (r .number))))
 
--- the field at p where it is wanted; p as it is where it is not, or where a field before it was refused
+-- rule 3.3: the field at p where it is wanted; p as it is where it is not, or where a field before it was refused
 unfoldable pub next : (ℕ → Reading) → Place → Bool → Step
 next read p wanted = cond (isAccepted (p .verdict) && wanted) (taken p (read (p .cursor .at))) (passed p)
 
----- fields whose form is judged, once they are there (rule 3.4)
+---- fields whose form is judged
 
+-- rule 3.4: a field that is there, but not in a form that ok allows, is refused with 5
 abbrev pub formed : (ℕ → Bool) → Reading → Reading
 formed ok r = cond (eqb (r .number) 0) (cond (ok (r .value)) r (refused forbidden)) r
 
@@ -65,14 +66,14 @@ nextPayload s p wanted = got8 (next (readPayload s) p wanted)
 unfoldable pub nextVersion : List ℕ → Place → Got8
 nextVersion s p = got8 (next (readVersion s) p true)
 
----- the CSRC list (rule 6.4)
+---- the CSRC list
 
 -- a list with one word more
 abbrev pub withWord : Csrc → Got32 → GotList
 withWord l g =
     record { place = g .place; list = record { count = suc (l .count); words = set (l .words) (l .count) (g .field .value) } }
 
--- n words into the first places of a list, whose others are 0
+-- rules 2.4, 6.4: a whole list: n words in its first places, 0 in the others
 abbrev pub nextList : List ℕ → Place → ℕ → GotList
 nextList s p zero = record { place = p; list = noList }
 nextList s p (suc n) = let q : GotList = nextList s p n in withWord (q .list) (nextLong s (q .place) true)

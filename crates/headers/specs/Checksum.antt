@@ -7,7 +7,7 @@ use Rattle.packet.specs.declared.header.Header.{Header}
 use Rattle.bytes.specs.Sum.{sumOf, complement}
 use Rattle.headers.specs.Header.{headerBytes}
 
--- of the header that stands in some bytes, with total for its IP length
+-- rule 5.2: of the header that stands in some bytes, with total for its IP length
 unfoldable pub ipChecksumOf : List ℕ → (total : ℕ) → ℕ
 ipChecksumOf p total =
     complement (sumOf 0 (wordAt p 0 ∷ total ∷ wordAt p 4 ∷ wordAt p 6 ∷ wordAt p 8 ∷ wordAt p 12 ∷ wordAt p 14 ∷ wordAt p 16
@@ -20,7 +20,7 @@ highWord v = v / 65536
 abbrev pub lowWord : ℕ → ℕ
 lowWord v = v % 65536
 
--- of a header, from its fields
+-- rule 5.2: of a header, from its fields
 unfoldable pub ipChecksum : Header → (total : ℕ) → ℕ
 ipChecksum h total =
     complement
@@ -37,6 +37,6 @@ ipChecksum h total =
     ∷ []
     ))
 
--- the header of a packet of so many bytes, lengths and checksum worked out
+-- rule 7.8: the header of a packet of so many bytes, with the lengths and the IP checksum that it must have
 abbrev pub printed : Header → (total : ℕ) → List ℕ
 printed h total = headerBytes total (total - 20) (ipChecksum h total) h

@@ -10,7 +10,7 @@ use Rattle.headers.specs.Rtp.{rtpFirstOf}
 use Rattle.headers.specs.Header.{countAt}
 use Rattle.headers.specs.Checksum.{ipChecksumOf}
 
--- what a full header shares with its packet (rule 6.1): first byte; MF and fragment offset 0; protocol; RTP version
+-- rules 5.1, 6.1: what a full header shares with its packet: first byte; MF and fragment offset 0; protocol; RTP version
 unfoldable pub fixedForm : List ℕ → Bool
 fixedForm p =
     eqb (byteAt p 0) 0x45
@@ -18,8 +18,8 @@ fixedForm p =
     && eqb (byteAt p 9) 17
     && eqb (rtpFirstOf (byteAt p 28) .version) 2
 
--- a packet that is compressed: 40 bytes or more; the form above; IP length; IP checksum; UDP length; even destination port;
--- 12 bytes and the CSRC list within the UDP data, which begin at 28
+-- rule 5.1: a packet that is compressed: 40 bytes or more; the form above; IP length; IP checksum; UDP length; even destination
+-- port; 12 bytes and the CSRC list within the UDP data, which begin at 28
 unfoldable pub compressible : List ℕ → Bool
 compressible p =
     leb 40 (length p)

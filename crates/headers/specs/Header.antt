@@ -1,4 +1,4 @@
--- Iarwennol. The bytes of an IPv4/UDP/RTP header, and the header fields that stand in some bytes.
+-- Iarwennol. The bytes of an IPv4/UDP/RTP header (RFC 791, 768, 3550), and the header fields that stand in some bytes.
 -- Used by the link layout of a full header (links), which has other length fields, and by both ends.
 use Prim.Native.Nat.{ℕ, zero, suc, _+_, _-_, _*_, _/_, _%_}
 use mathlib.Core.List.{List, [], _∷_, _++_}
@@ -20,7 +20,7 @@ abbrev pub longs : ℕ → List ℕ → List ℕ
 longs zero s = []
 longs (suc n) s = longAt s 0 ∷ longs n (drop 4 s)
 
--- a CSRC list of n words; the places past them hold 0
+-- rule 2.4: a CSRC list of n words; the places past them hold 0
 abbrev pub listAt : List ℕ → (at n : ℕ) → Csrc
 listAt s at n = record { count = n; words = longs n (drop at s) ++ replicate (15 - n) 0 }
 
@@ -43,10 +43,11 @@ rtpAt s at = record {
   csrc = listAt s (at + 12) (countAt s at);
 }
 
+-- rule 5.4: both addresses, both ports, SSRC
 unfoldable pub flowOf : List ℕ → Flow
 flowOf p = record { source = longAt p 12; destination = longAt p 16; sport = wordAt p 20; dport = wordAt p 22; ssrc = longAt p 36 }
 
--- flags: reserved bit and DF, the top two bits of byte 6
+-- rule 2.3: the flags that are kept are reserved bit and DF, the top two bits of byte 6
 unfoldable pub ipOf : List ℕ → Ip
 ipOf p = record { tos = byteAt p 1; ttl = byteAt p 8; flags = byteAt p 6 / 64; id = wordAt p 4 }
 
@@ -63,12 +64,12 @@ headerOf p = record {
 
 ---- header to bytes
 
--- version, TOS, length, ID and flags; MF and the fragment offset are 0
+-- version, TOS, length, ID and flags; MF and the fragment offset are 0 (rule 5.1)
 unfoldable pub ipFront : (length : ℕ) → Header → List ℕ
 ipFront length h =
     (0x45 ∷ []) ++ ((h .ip .tos ∷ []) ++ (bigEndian 2 length ++ (bigEndian 2 (h .ip .id) ++ bigEndian 2 (h .ip .flags * 0x4000))))
 
--- TTL, protocol, checksum and addresses
+-- TTL, protocol (rule 5.1), checksum and addresses
 unfoldable pub ipBack : (checksum : ℕ) → Header → List ℕ
 ipBack checksum h =
     (h .ip .ttl ∷ []) ++ ((17 ∷ [])

@@ -1,4 +1,4 @@
--- Iarwennol. The two bytes of an RTP header that are split into bits, both ways.
+-- Iarwennol. The two bytes of an RTP header (RFC 3550) that are split into bits, both ways.
 -- Used by the header of a packet (Header), and by a CU that carries a whole RTP header (links).
 use Prim.Native.Nat.{ℕ, _+_, _*_, _/_, _%_}
 use mathlib.Core.Bool.{Bool}
@@ -16,7 +16,7 @@ rtpFirstOf b = record { version = b / 64; padding = bitAt 5 b; extension = bitAt
 abbrev pub rtpFirstByte : RtpFirst → ℕ
 rtpFirstByte f = f .version * 64 + digit (f .padding) * 32 + digit (f .extension) * 16 + f .count
 
--- that of a header: the version is 2
+-- that of a header: the version is 2 (rules 5.1, 6.1, 6.3)
 abbrev pub rtpFirst : Rtp → Csrc → RtpFirst
 rtpFirst r l = record { version = 2; padding = r .padding; extension = r .extension; count = l .count }
 

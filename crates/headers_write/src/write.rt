@@ -100,7 +100,7 @@ pub fn put_header(
     put_list(out, at, list)
 }
 
-// The header of a packet of so many bytes: lengths and IP checksum are worked out.
+// The header of a packet of so many bytes, from which come both lengths and the IP checksum.
 pub fn put_printed(out: &mut [u8], at: usize, h: Header, total: u16) -> usize
     requires { ⌜ Narrow h × (20 ≤ total) × (at + headerSize h ≤ length (now out)) ⌝ }
     ensures { λ r. ⌜ (r ≡ at + headerSize h) × Wrote (now (out .entry)) (now (out .exit)) at r (printed h total) ⌝ }

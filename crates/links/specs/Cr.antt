@@ -23,7 +23,7 @@ use Rattle.links.specs.Head.{headBytes}
 
 ---- the flag bytes, both ways
 
--- M, S, T, I; the number is the link sequence in the first byte, the CSRC count in the second
+-- rule 6.2: M, S, T, I; the number is the link sequence in the first byte, the CSRC count in the second
 abbrev pub crFlagsOf : Flags → CrFlags
 crFlagsOf f = record { marker = f .bit7; dsn = f .bit6; dts = f .bit5; did = f .bit4 }
 
@@ -36,7 +36,7 @@ crFlagsBits number f = record { bit7 = f .marker; bit6 = f .dsn; bit5 = f .dts; 
 abbrev pub crSent : Parts → CrFlags
 crSent h = record { marker = h .marker; dsn = h .dsn .sent; dts = h .dts .sent; did = h .did .sent }
 
--- 1111 where the second byte stands, else the flags themselves
+-- rule 6.2: 1111 where the second byte stands, else the flags themselves
 abbrev pub crFirst : (listed : Bool) → CrFlags → CrFlags
 crFirst listed own =
     record { marker = listed || own .marker; dsn = listed || own .dsn; dts = listed || own .dts; did = listed || own .did }
@@ -47,13 +47,15 @@ crFlags link h = crFlagsBits link (crFirst (h .listed) (crSent h))
 abbrev pub crSecondByte : Parts → ℕ
 crSecondByte h = byteOf (crFlagsBits (h .csrc .count) (crSent h))
 
+-- rule 6.2: the second byte, where it stands
 abbrev pub secondBytes : (listed : Bool) → Parts → List ℕ
 secondBytes listed h = optional listed (crSecondByte h ∷ [])
 
--- the differences of ID, sequence and timestamp
+-- rule 6.2: the differences of ID, sequence and timestamp
 abbrev pub deltasBytes : Parts → List ℕ
 deltasBytes h = delta16 (h .did) ++ (delta16 (h .dsn) ++ delta32 (h .dts))
 
+-- rule 6.2: all that comes before what is copied
 unfoldable pub crBytes : (context link : ℕ) → (carried : Bool) → Parts → List ℕ
 crBytes context link carried h =
     headBytes context (crFlags link h)
@@ -61,11 +63,11 @@ crBytes context link carried h =
 
 ---- reader
 
--- M, S, T, I are 1111
+-- rule 6.2: M, S, T, I are 1111
 abbrev pub allFour : CrFlags → Bool
 allFour f = f .marker && f .dsn && f .dts && f .did
 
--- the flags in effect and the count: those of the second byte g where it stands, else the first, with no list
+-- rule 6.2: the flags in effect and the count: those of the second byte g where it stands, else the first, with no list
 unfoldable pub secondWith : Bool → CrFlags → (g : Flags) → Place → Second
 secondWith true f g p = record { place = p; listed = true; flags = crFlagsOf g; count = g .low }
 secondWith false f g p = record { place = p; listed = false; flags = f; count = 0 }
@@ -75,7 +77,7 @@ secondOf s p f =
     let second : Got8 = nextByte s p (allFour f) in
     secondWith (allFour f) f (flagsOf (second .field .value)) (second .place)
 
--- the differences of the ID if I, of the sequence if S, of the timestamp if T
+-- rule 6.2: the differences of the ID if I, of the sequence if S, of the timestamp if T
 unfoldable pub deltasOf : List ℕ → Place → CrFlags → Deltas
 deltasOf s p f =
     let did : Got16 = nextDelta16 s p (f .did) in
@@ -108,7 +110,7 @@ crRest s checksum second =
     let csrc : GotList = nextList s (deltas .place) (second .count) in
     crParts checksum second deltas csrc
 
--- past the flag byte f
+-- rule 6.2: past the flag byte f
 unfoldable pub crOf : List ℕ → Place → Flags → (carried : Bool) → ReadParts
 crOf s p f carried =
     let checksum : Got16 = nextWord s p carried in

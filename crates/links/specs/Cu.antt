@@ -24,14 +24,14 @@ use Rattle.links.specs.Head.{headBytes}
 
 ---- the flag bytes, both ways
 
--- F, I, dT, dI; the number is the link sequence
+-- rule 6.3: F, I, dT, dI; the number is the link sequence
 abbrev pub cuFlagsOf : Flags → CuFlags
 cuFlagsOf f = record { values = f .bit7; id = f .bit6; dts = f .bit5; did = f .bit4 }
 
 abbrev pub cuFlagsBits : (link : ℕ) → CuFlags → Flags
 cuFlagsBits link f = record { bit7 = f .values; bit6 = f .id; bit5 = f .dts; bit4 = f .did; low = link }
 
--- M, S, T, pt, CC
+-- rule 6.3: M, S, T, pt, CC
 abbrev pub cuSecondOf : Flags → CuSecond
 cuSecondOf f = record { marker = f .bit7; sequence = f .bit6; timestamp = f .bit5; payload = f .bit4; count = f .low }
 
@@ -59,20 +59,22 @@ cuSecond h = record {
 abbrev pub cuSecondByte : Parts → ℕ
 cuSecondByte h = byteOf (cuSecondBits (cuSecond h))
 
--- the UDP checksum where it is carried, the differences of ID and timestamp, the ID
+-- rule 6.3: the UDP checksum where it is carried, the differences of ID and timestamp, the ID
 abbrev pub changesBytes : (carried : Bool) → Parts → List ℕ
 changesBytes carried h = optional carried (bigEndian 2 (h .checksum)) ++ (delta16 (h .did) ++ (delta32 (h .dts) ++ whole16 (h .id)))
 
--- sequence, timestamp, payload type, CSRC list
+-- rule 6.3: sequence, timestamp, payload type, CSRC list
 abbrev pub valuesBytes : Parts → List ℕ
 valuesBytes h = whole16 (h .sequence) ++ (whole32 (h .timestamp) ++ (whole8 (h .payload) ++ listBytes (h .csrc)))
 
+-- rule 6.3: all that comes before what is copied
 unfoldable pub cuBytes : (context link : ℕ) → (carried : Bool) → Parts → List ℕ
 cuBytes context link carried h =
     headBytes context (cuFlags link h) ++ ((cuSecondByte h ∷ []) ++ (changesBytes carried h ++ valuesBytes h))
 
 ---- reader
 
+-- rule 6.3: the UDP checksum where it is carried, the differences of the ID if dI, of the timestamp if dT, the ID if I
 unfoldable pub changesOf : List ℕ → Place → CuFlags → (carried : Bool) → Changes
 changesOf s p f carried =
     let checksum : Got16 = nextWord s p carried in
@@ -81,6 +83,7 @@ changesOf s p f carried =
     let id : Got16 = nextWord s (dts .place) (f .id) in
     record { place = id .place; checksum = checksum .field .value; did = did .field; dts = dts .field; id = id .field }
 
+-- rule 6.3: the sequence if S, the timestamp if T, the payload type if pt, CC words
 unfoldable pub valuesOf : List ℕ → Place → CuSecond → Values
 valuesOf s p g =
     let sequence : Got16 = nextWord s p (g .sequence) in
@@ -120,7 +123,7 @@ cuRest s p f g carried =
     let values : Values = valuesOf s (changes .place) g in
     cuParts g changes values
 
--- past the flag byte f
+-- rule 6.3: past the flag byte f
 unfoldable pub cuOf : List ℕ → Place → Flags → (carried : Bool) → ReadParts
 cuOf s p f carried =
     let second : Got8 = nextByte s p true in

@@ -13,19 +13,20 @@ use Rattle.links.specs.declared.head.Head.{Head}
 
 ---- bytes
 
+-- rules 6.2, 6.3
 abbrev pub headBytes : (context : ℕ) → Flags → List ℕ
 headBytes context f = context ∷ byteOf f ∷ []
 
 ---- reader
 
--- the context number, read from the first byte on, and the place past it
+-- rules 6.2, 6.3: the context number, read from the first byte on, and the place past it
 abbrev pub contextField : List ℕ → Got8
 contextField s = nextByte s (good 0) true
 
 abbrev pub contextOf : List ℕ → ℕ
 contextOf s = contextField s .field .value
 
--- the flag byte that stands at p, and the place past it
+-- rules 6.2, 6.3: the flag byte that stands at p, and the place past it
 abbrev pub headAt : List ℕ → Place → Head
 headAt s p = let flags : Got8 = nextByte s p true in record { place = flags .place; flags = flagsOf (flags .field .value) }
 

@@ -10,6 +10,7 @@ use Rattle.packet.specs.declared.sent.Sent16.{Sent16}
 use Rattle.packet.specs.declared.sent.Sent32.{Sent32}
 use Rattle.bytes.specs.Put.{optional}
 
+-- rule 6.3: a field where it is sent whole
 abbrev pub whole8 : Sent8 → List ℕ
 whole8 f = optional (f .sent) (f .value ∷ [])
 
@@ -19,6 +20,7 @@ whole16 f = optional (f .sent) (bigEndian 2 (f .value))
 abbrev pub whole32 : Sent32 → List ℕ
 whole32 f = optional (f .sent) (bigEndian 4 (f .value))
 
+-- rules 4.1, 6.2, 6.3: the code of a difference where one is sent
 abbrev pub delta16 : Sent16 → List ℕ
 delta16 f = optional (f .sent) (codeOf 16 (f .value))
 

@@ -27,20 +27,23 @@ use Rattle.links.specs.Cu.{cuFlagsOf, cuFlagsBits, cuSent, changesBytes,
 
 ---- bytes
 
+-- rule 6.3: the RTP header, CSRC list and all
 abbrev pub rtpBytes : RtpHeader → List ℕ
 rtpBytes w =
     rtpFirstByte (rtpFirst (w .rtp) (w .csrc)) ∷ rtpSecondByte (rtpSecond (w .marker) (w .rtp))
     ∷ (bigEndian 2 (w .rtp .sequence) ++ (bigEndian 4 (w .rtp .timestamp) ++ (bigEndian 4 (w .ssrc) ++ listBytes (w .csrc))))
 
--- F is 0
+-- rule 6.3: F is 0
 abbrev pub wholeFlags : (link : ℕ) → Parts → Flags
 wholeFlags link h = cuFlagsBits link (cuSent false h)
 
+-- rule 6.3: all that comes before what is copied
 unfoldable pub wholeBytes : (context link : ℕ) → (carried : Bool) → Parts → RtpHeader → List ℕ
 wholeBytes context link carried h w = headBytes context (wholeFlags link h) ++ (changesBytes carried h ++ rtpBytes w)
 
 ---- reader
 
+-- rules 3.4, 6.3: twelve bytes that are one field; the version is judged before any is taken
 unfoldable pub fixedOf : List ℕ → Place → Fixed
 fixedOf s p =
     let first : Got8 = nextVersion s p in
@@ -75,7 +78,7 @@ rtpHeader x f l = record {
   };
 }
 
--- past the fixed bytes
+-- rule 6.3: past the fixed bytes: the CSRC list that they count
 unfoldable pub rtpRest : List ℕ → Fixed → RtpFirst → GotRtp
 rtpRest s x f = rtpHeader x f (nextList s (x .place) (f .count))
 
@@ -101,7 +104,7 @@ wholeParts c w = record {
   header = w .header;
 }
 
--- past the flag byte f
+-- rule 6.3: past the flag byte f
 unfoldable pub wholeOf : List ℕ → Place → Flags → (carried : Bool) → ReadWhole
 wholeOf s p f carried =
     let changes : Changes = changesOf s p (cuFlagsOf f) carried in

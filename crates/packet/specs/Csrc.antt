@@ -14,7 +14,7 @@ same [] (y ∷ ys) = false
 same (x ∷ xs) [] = false
 same (x ∷ xs) (y ∷ ys) = eqb x y && same xs ys
 
--- two CSRC lists are equal: count and all fifteen words
+-- rule 8.7: a CSRC list has not changed: count and all fifteen words are equal
 unfoldable pub sameList : Csrc → Csrc → Bool
 sameList a b = eqb (a .count) (b .count) && same (a .words) (b .words)
 

@@ -22,14 +22,14 @@ pub record ListSound (l : Csrc) : Type 0 where
   pub size : length (l .words) ≡ 15
   pub blank : drop (l .count) (l .words) ≡ replicate (15 - l .count) 0
 
--- and each word has 32 bits
+-- rule 2.3, and each word has 32 bits
 pub record ListInRange (l : Csrc) : Type 0 where
   pub count : l .count ≤ 15
   pub size : length (l .words) ≡ 15
   pub each : (i : ℕ) → getD (l .words) i 0 < 2 ^ 32
   pub blank : drop (l .count) (l .words) ≡ replicate (15 - l .count) 0
 
----- Header
+---- Header, each field by its width (rule 2.3)
 
 pub record FlowInRange (f : Flow) : Type 0 where
   pub source : f .source < 2 ^ 32
@@ -83,7 +83,7 @@ pub record Sendable (w : ℕ) (sent : Bool) (value : ℕ) : Type 0 where
   pub fits : value < 2 ^ w
   pub blank : cond sent value 0 ≡ value
 
--- parts that a CU with F, or a CR, can carry; carried: the context carries the UDP checksum
+-- rules 6.2, 6.3: parts that a CU with F, or a CR, can carry; carried: the context carries the UDP checksum
 pub record PartsFit (carried : Bool) (h : Parts) : Type 0 where
   pub checksum : Sendable 16 carried (h .checksum)
   pub id : Sendable 16 (h .id .sent) (h .id .value)

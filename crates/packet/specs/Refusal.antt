@@ -11,6 +11,7 @@ use Rattle.packet.specs.declared.refusal.Refusal.the-variants.{UnusedCod
 use Rattle.packet.specs.declared.refusal.Verdict.{Verdict}
 use Rattle.packet.specs.declared.refusal.Verdict.the-variants.{Accepted, Refused}
 
+-- rule 3.1
 abbrev pub numberOf : Refusal → ℕ
 numberOf Unsound = unsound
 numberOf BadLength = badLength
@@ -24,6 +25,7 @@ numberOf OutOfStep = outOfStep
 numberOf TooLong = tooLong
 numberOf NoRoom = noRoom
 
+-- rule 3.1: 0 where it is accepted
 abbrev pub verdictNumber : Verdict → ℕ
 verdictNumber Accepted = 0
 verdictNumber (Refused r) = numberOf r

@@ -65,7 +65,7 @@ pub fn read_fh(s: &[u8]) -> FullHeader
     }
 }
 
-// What stands in the IP length's place: 0, 1, six bits of generation, eight of context number.
+// What stands in the IP length's place: the bits 0, 1 and the generation in a byte, then the context number.
 fn ip_field(context: u8, generation: u8) -> u16
     requires { ⌜ generation < 64 ⌝ }
     ensures { λ r. ⌜ r ≡ ipField context generation ⌝ }

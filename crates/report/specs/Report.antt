@@ -20,7 +20,7 @@ brokenBy Broken = true
 abbrev pub isBroken : DecompressorContext → Bool
 isBroken c = brokenBy (c .status)
 
--- what is said of a broken context. One that was never filled holds 0 for link sequence and generation (rule 2.4)
+-- rule 9.1: what is said of a broken context. One that was never filled holds 0 for link sequence and generation (rule 2.4)
 abbrev pub stateOf : ℕ → DecompressorContext → State
 stateOf i c = record { context = i; link = c .link .sequence; generation = c .link .generation }
 
@@ -28,12 +28,12 @@ stateOf i c = record { context = i; link = c .link .sequence; generation = c .li
 abbrev pub statesOf : ℕ → DecompressorContext → List State
 statesOf i c = cond (isBroken c) (stateOf i c ∷ []) []
 
--- of every broken one, the lowest first; i: the first one's number
+-- rule 9.1: of every broken one, the lowest first; i: the first one's number
 abbrev pub statesFrom : ℕ → List DecompressorContext → List State
 statesFrom i [] = []
 statesFrom i (c ∷ cs) = cond (isBroken c) (stateOf i c ∷ statesFrom (suc i) cs) (statesFrom (suc i) cs)
 
--- with none broken there is nothing to report
+-- rule 9.1: with none broken there is nothing to report
 abbrev pub reportOn : List State → List ℕ
 reportOn [] = []
 reportOn (r ∷ rs) = csBytes (r ∷ rs)
@@ -41,6 +41,6 @@ reportOn (r ∷ rs) = csBytes (r ∷ rs)
 abbrev pub reportBytes : Table → List ℕ
 reportBytes t = reportOn (statesFrom 0 (t .contexts))
 
--- rule 9.1: 1, 11
+-- rule 9.1: refused with 1, 11; the table stays
 unfoldable pub reportOf : Table → (output : List ℕ) → Result
 reportOf t output = cond (soundOf t) (delivered t t (reportBytes t) output) (refused t unsound output)

@@ -168,7 +168,7 @@ pub fn report_bytes(mutant: Mutant) -> Outcome {
     same("report", report.bytes, hex("01 01 03 84 05"))
 }
 
-/// Starred: context 0, sequence 6, M set, nothing due, checksum blank.
+/// Starred: the shortest header, 00 86: context 0, sequence 6, marker, no checksum.
 pub fn compressed_rtp_header(mutant: Mutant) -> Outcome {
     let mut ends = Ends::open(mutant, 0, 1);
     let mut packet = voice(1, 1, 0);
@@ -216,7 +216,7 @@ pub fn fourteen_lost(mutant: Mutant) -> Outcome {
     same("gap of 0", ends.receive(3, &bytes, 1500)?.number, 9)
 }
 
-/// N 1, two FH with timestamps 10 and 20, then 20 again.
+/// N 1; the second FH and the packet after it have the same timestamp, 20.
 pub fn on_pattern_but_still_due(mutant: Mutant) -> Outcome {
     let mut ends = Ends::open(mutant, 1, 1);
     ends.sends(&voice(1, 1, 10), 1, &voice(1, 1, 10).full_header(0, 0, 0))?;
@@ -233,7 +233,7 @@ fn packet_with_checksum_zero() -> Voice {
         .expect("some ID gives 0000")
 }
 
-/// FFFF where 0000 is worked out goes plain; 0000 is compressed. An FH with FFFF is refused 5.
+/// Where 0000 is right, FFFF goes plain and 0000 is compressed. An FH with FFFF is refused 5.
 pub fn checksum_of_all_ones(mutant: Mutant) -> Outcome {
     let mut ends = Ends::open(mutant, 1, 1);
     let packet = packet_with_checksum_zero();
