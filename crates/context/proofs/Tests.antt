@@ -94,7 +94,7 @@ module _ (h : Header) (c : CompressorContext) where
 
   -- and never by a full header
   mayAdopt-full : 1 ≤ c .due .full → mayAdopt c ≡ false
-  mayAdopt-full e = ap (λ (b : Bool). b && c .earlier .known) (ne-eqb (c .due .full) 0 (omega arith))
+  mayAdopt-full e = rw (ne-eqb (c .due .full) 0 (omega arith))
 
   pub adoptsId-full : 1 ≤ c .due .full → adoptsId h c ≡ false
   unfolding adoptsId
