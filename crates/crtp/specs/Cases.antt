@@ -1,10 +1,10 @@
--- Iarwennol. The worked cases (rule 11.1): one table under one statement, over the definitions that the contracts of the calls cite.
+-- Iarwennol. The worked cases (rule 11.1): one table under one statement, over the definitions that the calls' contracts cite.
 -- A difference is held against its code; a packet against what a send gives out and what a receive makes of that; a report against
 -- its bytes. Assumes nothing; used by no definition.
 use Prim.Native.Nat.{ℕ, _/_, _%_}
 use mathlib.Core.Path.{_≡_, refl}
 use mathlib.Core.List.{List, [], _∷_, _++_, map}
-use lib.ListN.{set, take, replicate}
+use lib.ListN.{take, replicate}
 use Rattle.settings.specs.Settings as settings
 use Rattle.bytes.specs.Sum.{plus}
 use Rattle.codes.specs.Cases as codes
@@ -28,6 +28,7 @@ use Rattle.links.specs.Cr.{crBytes, secondWith, secondOf, deltasOf, crRest, crO
 use Rattle.links.specs.Cs.{csBytes, recordWith, recordJudged, requestJudged}
 use Rattle.links.specs.Cu.{cuBytes, changesOf, valuesOf, cuRest, cuOf}
 use Rattle.links.specs.Fh.{fhBytes, fieldsForm, fhJudged, fhOf}
+use Rattle.links.specs.FhPacketLaws.{withLengths}
 use Rattle.links.specs.Head.{headOf}
 use Rattle.packet.specs.Csrc.{sameList}
 use Rattle.compressor.specs.declared.table.Table as compressor
@@ -51,10 +52,6 @@ voice flow tos id checksum marked sequence timestamp =
     0x45 ∷ tos ∷ 0x00 ∷ 0x29 ∷ id / 256 ∷ id % 256 ∷ 0x40 ∷ 0x00 ∷ 0x40 ∷ 0x11 ∷ checksum / 256 ∷ checksum % 256
     ∷ 0x0A ∷ 0x00 ∷ 0x00 ∷ 0x01 ∷ 0x0A ∷ 0x00 ∷ 0x00 ∷ 0x02 ∷ 0x13 ∷ 0x88 ∷ 0x13 ∷ 0x8A ∷ 0x00 ∷ 0x15 ∷ 0x00 ∷ 0x00
     ∷ 0x80 ∷ marked ∷ 0x00 ∷ sequence ∷ 0x00 ∷ 0x00 ∷ 0x00 ∷ timestamp ∷ 0x00 ∷ 0x00 ∷ 0x00 ∷ flow ∷ 0xAB ∷ []
-
--- a packet with other bytes in place of its IP length and of its UDP length
-abbrev pub withLengths : (ip0 ip1 udp0 udp1 : ℕ) → List ℕ → List ℕ
-withLengths ip0 ip1 udp0 udp1 p = set (set (set (set p 2 ip0) 3 ip1) 24 udp0) 25 udp1
 
 ---- The table
 

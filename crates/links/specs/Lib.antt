@@ -15,4 +15,3 @@ pub mod Cr
 pub mod CrLaws
 pub mod Whole
 pub mod WholeLaws
-pub mod Cases
