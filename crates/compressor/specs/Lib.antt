@@ -9,6 +9,7 @@ pub mod SendLaws
 pub mod SentLaws
 pub mod CanSend
 pub mod CanSendLaws
+pub mod FullLaws
 pub mod SoundLaws
 pub mod Request
 pub mod RequestLaws

@@ -1,5 +1,5 @@
 -- Iarwennol. Worked cases of one context.
--- Both ends' rules held to numbers worked out by hand (rules 11, 12.1), above all where the relation does not see a rule.
+-- Both ends' rules held to numbers worked out by hand (rules 11.2, 12.1), above all where the relation does not see a rule.
 -- Used by no definition.
 use Prim.Native.Nat.{ℕ}
 use mathlib.Core.Path.{_≡_, refl}
@@ -17,7 +17,7 @@ use Rattle.packet.specs.Refusal.{verdictNumber}
 use Rattle.context.specs.Decompressor.{filled, gapVerdict, ipAfter, rtpAfter, deltasHeld, advanced, broke, settled, applied}
 use Rattle.context.specs.Decompressor.{rebuilt}
 use Rattle.context.specs.Sound.{emptyCompressor}
-use Rattle.context.specs.declared.step.Kind.the-variants.{FullHeader, CompressedUdp, CompressedRtp}
+use Rattle.context.specs.declared.step.Kind.the-variants.{FullHeader, CompressedRtp}
 use Rattle.context.specs.declared.compressor.CompressorContext.{CompressorContext}
 use Rattle.context.specs.declared.decompressor.DecompressorContext.{DecompressorContext}
 
@@ -42,10 +42,6 @@ opened n h = first n h (record { sequence = 0; generation = 0 })
 
 abbrev pub after : ℕ → CompressorContext → Header → CompressorContext
 after n c h = stepOf n h c .context
-
--- N 2, timestamps 10, 20, 30 in full headers
-abbrev pub rising : CompressorContext
-rising = after 2 (after 2 (opened 2 (voice 1 7 10)) (voice 2 8 20)) (voice 3 9 30)
 
 -- N 1, full headers with timestamps 10 and 20
 abbrev pub jumped : CompressorContext
@@ -81,22 +77,6 @@ nothing = bringing false 0
 ---- The cases
 
 pub record Compressing : Type 0 where
-  -- rule 11.1: after 10, 20, 30 in full headers comes 40, with an ID off pattern: a CU with the ID, the timestamp and its delta
-  pub rising-kind : stepOf 2 (voice 4660 10 40) rising .kind ≡ CompressedUdp
-  pub rising-sequence : stepOf 2 (voice 4660 10 40) rising .link .sequence ≡ 3
-  pub rising-parts : stepOf 2 (voice 4660 10 40) rising .parts ≡ record {
-    marker = false;
-    checksum = 0;
-    id = sentIf16 true 4660;
-    sequence = sentIf16 false 0;
-    timestamp = sentIf32 true 40;
-    payload = sentIf8 false 0;
-    did = sentIf16 false 0;
-    dsn = sentIf16 false 0;
-    dts = sentIf32 true 10;
-    listed = true;
-    csrc = noList;
-  }
   -- rule 11.2: 20 after 10 and 20 is on pattern and still sent, for it was off pattern inside the run (rule 12.1)
   pub jumped-parts : stepOf 1 (voice 3 9 20) jumped .parts .timestamp ≡ sentIf32 true 20
   pub jumped-delta : stepOf 1 (voice 3 9 20) jumped .parts .dts ≡ sentIf32 false 0
@@ -147,9 +127,6 @@ unfolding difference hasCode sameList nextSequence nextGeneration offPattern cou
     startedUnlessDue requested reset adoptsId adoptsTimestamp judged dueNow anyDue kindOf listIf partsOf dueAfter deltasAfter moved
     sentWith stepOf emptyCompressor
 compressing = record {
-  rising-kind = refl;
-  rising-sequence = refl;
-  rising-parts = refl;
   jumped-parts = refl;
   jumped-delta = refl;
   steady-kind = refl;

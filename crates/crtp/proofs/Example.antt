@@ -2,12 +2,13 @@
 -- So the theorem is about something: a lost full header, a lost CU, an arrival without room, a late arrival, a plain packet.
 use Prim.Native.Nat.{ℕ, _≤_}
 use mathlib.Core.Path.{_≡_, refl}
-use mathlib.Core.Bool.{Bool, true, false, and-eq-true-iff}
+use mathlib.Core.Bool.{Bool, true, false}
 use mathlib.Core.List.{List, [], _∷_}
-use borrow.Author.Tests.{ltb-true, eqb-true}
-use lib.Dec.{eqb, ltb, lit≤}
+use borrow.Author.Tests.{eqb-true}
+use lib.Dec.{eqb, lit≤}
 use lib.ListN.{replicate}
-use Rattle.codes.specs.Bytes.{AllBytes, none, more}
+use Rattle.codes.specs.Bytes.{areBytes}
+use Rattle.codes.specs.BytesLaws.{allBytes-areBytes}
 use Rattle.compressor.specs.Table as compressing
 use Rattle.decompressor.specs.Table as decompressing
 use Rattle.settings.specs.Settings as settings
@@ -42,16 +43,10 @@ use Rattle.packet.specs.Csrc.{sameList}
 use Rattle.crtp.specs.Robust.{Bytes, Call, send, request, arrival, other, World, Sent, after, Ordered, losses, Bounded}
 use Rattle.crtp.specs.Robust.{Opened, Premises}
 use Rattle.crtp.proofs.Calm.{bounded-calm}
-use Rattle.crtp.specs.Example.{areBytes, packet0, packet1, packet2, packet3, packet4, packet5, odd, asks, Shown, answers}
-
-areBytes-all : (l : List ℕ) → areBytes l ≡ true → AllBytes l
-areBytes-all [] e = none
-areBytes-all (b ∷ bs) e =
-    let p = and-eq-true-iff (ltb b 256) (areBytes bs) .0 e in
-    more (ltb-true b 256 (p .0)) (areBytes-all bs (p .1))
+use Rattle.crtp.specs.Example.{packet0, packet1, packet2, packet3, packet4, packet5, odd, asks, Shown, answers}
 
 abbrev bytes : (l : List ℕ) → areBytes l ≡ true → Bytes
-bytes l e = record { list = l; small = areBytes-all l e }
+bytes l e = record { list = l; small = allBytes-areBytes l e }
 
 abbrev wide : Bytes
 wide = bytes (replicate 44 0xAA) refl

@@ -2,17 +2,9 @@
 -- A full header is lost, a CU is lost, an arrival has no room, a request stands between, an arrival is late, a plain packet goes.
 -- Used by proofs/Example.antt, which shows all of it.
 use Prim.Native.Nat.{ℕ}
-use mathlib.Core.Bool.{Bool, true, _&&_}
 use mathlib.Core.List.{List, [], _∷_}
-use lib.Dec.{ltb}
 use lib.ListN.{take}
 use Rattle.crtp.specs.Robust.{Call, send, request, arrival, other, World, step, answer}
-
----- Bytes that the prover can see to be bytes
-
-abbrev pub areBytes : List ℕ → Bool
-areBytes [] = true
-areBytes (b ∷ bs) = ltb b 256 && areBytes bs
 
 ---- The packets: one stream, sequence and ID one on, timestamp 160 on with each; and one that is no IPv4 packet
 

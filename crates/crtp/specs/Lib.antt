@@ -1,3 +1,4 @@
 pub mod Robust
 pub mod Alike
 pub mod Example
+pub mod Cases

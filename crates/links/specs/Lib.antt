@@ -1,5 +1,7 @@
 pub mod Fh
 pub mod FhLaws
+pub mod FhPacketLaws
+pub mod FhFormLaws
 pub mod Cs
 pub mod CsLaws
 pub mod Sent
@@ -13,4 +15,3 @@ pub mod Cr
 pub mod CrLaws
 pub mod Whole
 pub mod WholeLaws
-pub mod Cases
