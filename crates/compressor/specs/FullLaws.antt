@@ -19,7 +19,8 @@ use Rattle.compressor.specs.declared.table.Table.{Table}
 use Rattle.compressor.specs.Answer.{Result}
 use Rattle.compressor.specs.TableLaws.{soundOf-true}
 use Rattle.compressor.specs.Send.{kindNumber, linkBy, linkBytes, sendOf}
-use Rattle.compressor.specs.SendLaws.{On, stepAt, kindAt, bytesAt, sentOn, Goes, goes-refused, goes-plain, goes-on, sendOf-goes}
+use Rattle.compressor.specs.SendLaws.{On, stepAt, kindAt, bytesAt, sentOn}
+use Rattle.compressor.specs.SendLaws.{Goes, goes-refused, goes-plain, goes-on, sendOf-goes}
 use Rattle.compressor.specs.CanSendLaws.{sound-most, canSend-on}
 
 -- what a call gave out is the packet p, but that its length fields say a context of k, a generation and a link sequence
