@@ -3,6 +3,7 @@
 use Prim.Native.Nat.{ℕ}
 use mathlib.Core.Bool.{cond}
 use mathlib.Core.List.{List, _++_}
+use mathlib.Core.Option.{Option, none, some}
 use lib.ListN.{length, drop}
 use Rattle.codes.specs.Numbers.{unsound, badLength}
 use Rattle.packet.specs.declared.header.Header.{Header}
@@ -13,8 +14,6 @@ use Rattle.context.specs.declared.step.Step.{Step}
 pub use Rattle.context.specs.Compressor.{kindNumber}
 pub use Rattle.outgoing.specs.Outgoing.{stepBy, linkBy}
 unfoldable pub use Rattle.outgoing.specs.Outgoing.{stepOn, linkBytes}
-use Rattle.compressor.specs.declared.lookup.Found.{Found}
-use Rattle.compressor.specs.declared.lookup.Found.the-variants.{At, Nowhere}
 use Rattle.compressor.specs.declared.table.Table.{Table}
 use Rattle.compressor.specs.Answer.{Result, refused, delivered}
 use Rattle.compressor.specs.Table.{contextAt, withContext, soundOf}
@@ -39,9 +38,9 @@ abbrev pub sendPlain : Table → (p output : List ℕ) → Result
 sendPlain t p output = delivered t t 0 p output
 
 -- rule 5.4
-abbrev pub sendTo : Found → Table → (p output : List ℕ) → Result
-sendTo (At i) t p output = sendAt t i p output
-sendTo Nowhere t p output = sendPlain t p output
+abbrev pub sendTo : Option ℕ → Table → (p output : List ℕ) → Result
+sendTo (some i) t p output = sendAt t i p output
+sendTo none t p output = sendPlain t p output
 
 -- rule 3.2: 1, 2, 11
 unfoldable pub sendOf : Table → (p output : List ℕ) → Result
