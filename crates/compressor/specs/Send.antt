@@ -10,8 +10,7 @@ use Rattle.packet.specs.declared.header.Header.{Header}
 use Rattle.headers.specs.Header.{headerOf, headerSize}
 use Rattle.headers.specs.Compressible.{compressible}
 use Rattle.settings.specs.Settings.{lengthAllowed}
-use Rattle.context.specs.declared.step.Step.{Step}
-pub use Rattle.context.specs.Compressor.{kindNumber}
+use Rattle.context.specs.Compressor.{Going}
 pub use Rattle.outgoing.specs.Outgoing.{stepBy, linkBy}
 unfoldable pub use Rattle.outgoing.specs.Outgoing.{stepOn, linkBytes}
 use Rattle.compressor.specs.declared.table.Table.{Table}
@@ -22,11 +21,11 @@ use Rattle.compressor.specs.Lookup.{placeOf}
 ---- On a context
 
 -- rule 5.5: what followed the CSRC list goes out as it came
-abbrev pub sentBytes : ℕ → List ℕ → Header → Step → List ℕ
+abbrev pub sentBytes : ℕ → List ℕ → Header → Going → List ℕ
 sentBytes i p h a = linkBytes i (length p) h a ++ drop (headerSize h) p
 
-abbrev pub sendStep : Table → (i : ℕ) → (p output : List ℕ) → Header → Step → Result
-sendStep t i p output h a = delivered t (withContext t i (a .context)) (kindNumber (a .kind)) (sentBytes i p h a) output
+abbrev pub sendStep : Table → (i : ℕ) → (p output : List ℕ) → Header → Going → Result
+sendStep t i p output h a = delivered t (withContext t i (a .context)) (a .kind) (sentBytes i p h a) output
 
 unfoldable pub sendAt : Table → (i : ℕ) → (p output : List ℕ) → Result
 sendAt t i p output = sendStep t i p output (headerOf p) (stepOn (t .settings .repeats) (headerOf p) (contextAt t i))

@@ -14,13 +14,13 @@ use Rattle.headers.specs.Header.{headerOf}
 use Rattle.headers.specs.Compressible as headers
 use Rattle.context.specs.declared.compressor.Usage.{Usage}
 use Rattle.context.specs.declared.compressor.Usage.the-variants.{Empty, Live}
-use Rattle.context.specs.declared.step.Step.{Step}
+use Rattle.context.specs.Compressor.{Going}
 use Rattle.compressor.specs.declared.table.Table.{Table}
 use Rattle.compressor.specs.Answer.{Result, accepted, refused, delivered}
 use Rattle.compressor.specs.Table.{contextAt, withContext, isEmpty, emptyBy, soundOf}
 use Rattle.compressor.specs.Lookup.{sameFlow, isOf, lowest, orElse, placeOf}
 use Rattle.compressor.specs.LookupLaws.{lowest-found}
-use Rattle.compressor.specs.Send.{stepOn, kindNumber, sentBytes, sendAt, sendPlain, sendTo, sendOf}
+use Rattle.compressor.specs.Send.{stepOn, sentBytes, sendAt, sendPlain, sendTo, sendOf}
 
 ---- placeOf
 
@@ -78,14 +78,14 @@ pub record On (t : Table) (p : List ℕ) (i : ℕ) : Type 0 where
   pub place : Place t (headerOf p .flow) i
 
 -- its step on context i, the table that this leaves, the type and the bytes that go out
-abbrev pub stepAt : Table → List ℕ → ℕ → Step
+abbrev pub stepAt : Table → List ℕ → ℕ → Going
 stepAt t p i = stepOn (t .settings .repeats) (headerOf p) (contextAt t i)
 
 abbrev pub tableAt : Table → List ℕ → ℕ → Table
 tableAt t p i = withContext t i (stepAt t p i .context)
 
 abbrev pub kindAt : Table → List ℕ → ℕ → ℕ
-kindAt t p i = kindNumber (stepAt t p i .kind)
+kindAt t p i = stepAt t p i .kind
 
 abbrev pub bytesAt : Table → List ℕ → ℕ → List ℕ
 bytesAt t p i = sentBytes i p (headerOf p) (stepAt t p i)
@@ -116,7 +116,8 @@ module _ (t : Table) (p output : List ℕ) where
     goes-unchanged : Goes t p output (sendPlain t p output)
     goes-unchanged = goes-delivered t 0 p (goes-plain sound least most)
 
-    goes-to : headers.compressible p ≡ true → (x : Option ℕ) → placeOf t (headerOf p .flow) ≡ x → Goes t p output (sendTo x t p output)
+    goes-to : headers.compressible p ≡ true → (x : Option ℕ) → placeOf t (headerOf p .flow) ≡ x
+        → Goes t p output (sendTo x t p output)
     goes-to e (some i) q =
         goes-at i (record { sound = sound; compressible = e; most = most; place = placeOf-found t (headerOf p .flow) i q })
     goes-to e none q = goes-unchanged

@@ -129,7 +129,8 @@ returns-5 c = let a =
     (sym (c .before .before .before .before .before .before .before .before .before .before .is-compressible .ensures)
     ∙ not-false _ (c .before .before .before .before .before .before .before .before .before .if3 .left))
     (sym (rw (c .before .before .before .before .before .before .before .before .read-header .ensures) at
-    (c .before .before .before .before .before .before .find .ensures)) ∙ ap placeIn (c .before .before .before .before .enum-told .given .1))
+    (c .before .before .before .before .before .before .find .ensures))
+    ∙ ap placeIn (c .before .before .before .before .enum-told .given .1))
 
 pub send-spec : {M : Type 1} → statement M
 send-spec =
