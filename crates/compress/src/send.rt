@@ -1,5 +1,5 @@
 ghost use mathlib.Core.Path.{_≡_};
-ghost use Rattle.context.specs.Compressor.{kindOf, checksumSent, listIf, partsOf};
+ghost use Rattle.context.specs.Compressor.{kindOf, kindNumber, checksumSent, listIf, partsOf};
 use context::compressor::CompressorContext;
 use context::kept::Deltas;
 use context::step::DueNow;
@@ -9,7 +9,7 @@ use packet::header::Header;
 use packet::parts::Parts;
 
 pub fn choose_kind(full: u8, any: bool) -> Kind
-    ensures { λ r. ⌜ r ≡ kindOf full any ⌝ }
+    ensures { λ r. ⌜ kindNumber r ≡ kindOf full any ⌝ }
 {
     if 0 < full {
         return Kind::FullHeader;

@@ -1,7 +1,7 @@
 ghost use mathlib.Core.Path.{_≡_};
 ghost use Prim.Native.Nat.{_≤_};
 ghost use Rattle.context.specs.Field.{nextSequence};
-ghost use Rattle.context.specs.Compressor.{deltasAfter, moved, stepOf, first, firstStep};
+ghost use Rattle.context.specs.Compressor.{deltasAfter, moved, stepOf, first, firstStep, stepped};
 use crate::due;
 use crate::judge;
 use crate::run;
@@ -65,7 +65,7 @@ fn move_on(n: u8, h: Header, c: CompressorContext, j: Judged) -> CompressorConte
 // Any packet after a context's first.
 pub fn next_packet(n: u8, h: Header, c: CompressorContext) -> Step
     requires { ⌜ n ≤ 14 ⌝ }
-    ensures { λ r. ⌜ r ≡ stepOf n h c ⌝ }
+    ensures { λ r. ⌜ stepped r ≡ stepOf n h c ⌝ }
 {
     let begun = run::begin(n, h, c);
     let ready = judge::reset_deltas(begun);
@@ -121,7 +121,7 @@ fn first_context(n: u8, h: Header, link: Link) -> CompressorContext
 
 // A context's first packet, with the given link sequence and generation: those of whatever used the context before.
 pub fn first_packet(n: u8, h: Header, link: Link) -> Step
-    ensures { λ r. ⌜ r ≡ firstStep n h link ⌝ }
+    ensures { λ r. ⌜ stepped r ≡ firstStep n h link ⌝ }
 {
     let now = DueNow {
         id: false,

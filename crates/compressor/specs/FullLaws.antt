@@ -1,7 +1,7 @@
 -- Iarwennol. A send that gives out a full header gives out the packet itself, but for its two length fields (rule 6.1).
 -- Assumes nothing.
 use Prim.Native.Nat.{ℕ, _+_, _<_}
-use mathlib.Core.Path.{_≡_, refl, ap, _∙_}
+use mathlib.Core.Path.{_≡_, ap, _∙_}
 use mathlib.Core.List.{List, _++_}
 use native.Mathlib.Omega.{arith}
 use lib.ListN.{length, take, drop}
@@ -11,14 +11,12 @@ use Rattle.packet.specs.declared.header.Header.{Header}
 use Rattle.headers.specs.Header.{headerOf, headerSize}
 use Rattle.links.specs.Fh.{fhBytes}
 use Rattle.links.specs.FhPacketLaws.{withLengths, length-withLengths, fhBytes-packet}
-use Rattle.context.specs.declared.step.Kind.{Kind}
-use Rattle.context.specs.declared.step.Kind.the-variants.{FullHeader, CompressedUdp, CompressedRtp}
-use Rattle.context.specs.declared.step.Step.{Step}
+use Rattle.context.specs.Compressor.{fullHeader, Going}
 use Rattle.outgoing.specs.Size.{Writable}
 use Rattle.compressor.specs.declared.table.Table.{Table}
 use Rattle.compressor.specs.Answer.{Result}
 use Rattle.compressor.specs.TableLaws.{soundOf-true}
-use Rattle.compressor.specs.Send.{kindNumber, linkBy, linkBytes, sendOf}
+use Rattle.compressor.specs.Send.{linkBy, linkBytes, sendOf}
 use Rattle.compressor.specs.SendLaws.{On, stepAt, kindAt, bytesAt, sentOn}
 use Rattle.compressor.specs.SendLaws.{Goes, goes-refused, goes-plain, goes-on, sendOf-goes}
 use Rattle.compressor.specs.CanSendLaws.{sound-most, canSend-on}
@@ -36,20 +34,15 @@ pub record GaveFull (k : ℕ) (p : List ℕ) (r : Result) : Type 0 where
 
 ---- the bytes of type 1
 
-module _ (i total : ℕ) (h : Header) (a : Step) where
-  full-by : (k : Kind) → kindNumber k ≡ 1 → linkBy k i total h a ≡ fhBytes i (a .link .generation) (a .link .sequence) total h
-  full-by FullHeader e = refl
-  full-by CompressedUdp e = absurd (omega arith)
-  full-by CompressedRtp e = absurd (omega arith)
-
-  linkBytes-full : kindNumber (a .kind) ≡ 1 → linkBytes i total h a ≡ fhBytes i (a .link .generation) (a .link .sequence) total h
-  unfolding linkBytes
-  linkBytes-full e = full-by (a .kind) e
+linkBytes-full : (i total : ℕ) (h : Header) (a : Going) → a .kind ≡ fullHeader
+    → linkBytes i total h a ≡ fhBytes i (a .link .generation) (a .link .sequence) total h
+unfolding linkBytes
+linkBytes-full i total h a e = ap (λ (k : ℕ). linkBy k i total h a) e
 
 ---- sendOf
 
 module _ (t : Table) (p output : List ℕ) (size : length (t .contexts) ≡ 64) (all : AllBytes p) where
-  module _ (i : ℕ) (o : On t p i) (e : kindAt t p i ≡ 1) where
+  module _ (i : ℕ) (o : On t p i) (e : kindAt t p i ≡ fullHeader) where
     few : i < 256
     few = omega (arith, o .place .among, sound-most t (soundOf-true t (o .sound)))
 
@@ -75,10 +68,10 @@ module _ (t : Table) (p output : List ℕ) (size : length (t .contexts) ≡ 64) 
       bytes = take-append-seam (bytesAt t p i) (drop (length (bytesAt t p i)) output) ∙ bytes-packet;
     }
 
-  full-goes : (r : Result) → Goes t p output r → r .kind ≡ 1 → GaveFull (t .settings .contexts) p r
+  full-goes : (r : Result) → Goes t p output r → r .kind ≡ fullHeader → GaveFull (t .settings .contexts) p r
   full-goes _ (goes-refused n h) e = absurd (omega arith)
   full-goes _ (goes-plain a b c) e = absurd (omega arith)
   full-goes _ (goes-on i o) e = full-on i o e
 
-  pub sendOf-full : sendOf t p output .kind ≡ 1 → GaveFull (t .settings .contexts) p (sendOf t p output)
+  pub sendOf-full : sendOf t p output .kind ≡ fullHeader → GaveFull (t .settings .contexts) p (sendOf t p output)
   sendOf-full = full-goes (sendOf t p output) (sendOf-goes t p output)

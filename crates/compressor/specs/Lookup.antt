@@ -3,6 +3,7 @@
 use Prim.Native.Nat.{ℕ, zero, suc, _+_}
 use mathlib.Core.Bool.{Bool, cond, not, _&&_}
 use mathlib.Core.List.{List}
+use mathlib.Core.Option.{Option, none, some}
 use lib.Dec.{eqb}
 use lib.ListN.{getD}
 use Rattle.packet.specs.declared.header.Flow.{Flow}
@@ -25,15 +26,20 @@ abbrev pub isOf : Flow → CompressorContext → Bool
 isOf f c = not (isEmpty c) && sameFlow f (c .flow)
 
 -- the lowest place from i on, of so many, whose context passes a test
-abbrev pub lowest : (CompressorContext → Bool) → List CompressorContext → (i left : ℕ) → Found
-lowest p cs i zero = Nowhere
-lowest p cs i (suc left) = cond (p (getD cs i noContext)) (At i) (lowest p cs (i + 1) left)
+abbrev pub lowest : (CompressorContext → Bool) → List CompressorContext → (i left : ℕ) → Option ℕ
+lowest p cs i zero = none
+lowest p cs i (suc left) = cond (p (getD cs i noContext)) (some i) (lowest p cs (i + 1) left)
 
-abbrev pub orElse : Found → Found → Found
-orElse (At i) other = At i
-orElse Nowhere other = other
+abbrev pub orElse : Option ℕ → Option ℕ → Option ℕ
+orElse (some i) other = some i
+orElse none other = other
 
--- the lowest context of the flow, else the lowest empty one, among those that the settings give
-unfoldable pub placeOf : Table → Flow → Found
+-- rule 5.4: the lowest context of the flow, else the lowest empty one, among those that the settings give
+unfoldable pub placeOf : Table → Flow → Option ℕ
 placeOf t f = orElse (lowest (isOf f) (t .contexts) 0 (t .settings .contexts))
     (lowest isEmpty (t .contexts) 0 (t .settings .contexts))
+
+-- the place that each answer of the lookup gives
+abbrev pub placeIn : Found → Option ℕ
+placeIn (At i) = some i
+placeIn Nowhere = none

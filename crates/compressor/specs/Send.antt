@@ -3,18 +3,16 @@
 use Prim.Native.Nat.{ℕ}
 use mathlib.Core.Bool.{cond}
 use mathlib.Core.List.{List, _++_}
+use mathlib.Core.Option.{Option, none, some}
 use lib.ListN.{length, drop}
 use Rattle.codes.specs.Numbers.{unsound, badLength}
 use Rattle.packet.specs.declared.header.Header.{Header}
 use Rattle.headers.specs.Header.{headerOf, headerSize}
 use Rattle.headers.specs.Compressible.{compressible}
 use Rattle.settings.specs.Settings.{lengthAllowed}
-use Rattle.context.specs.declared.step.Step.{Step}
-pub use Rattle.context.specs.Compressor.{kindNumber}
+use Rattle.context.specs.Compressor.{Going}
 pub use Rattle.outgoing.specs.Outgoing.{stepBy, linkBy}
 unfoldable pub use Rattle.outgoing.specs.Outgoing.{stepOn, linkBytes}
-use Rattle.compressor.specs.declared.lookup.Found.{Found}
-use Rattle.compressor.specs.declared.lookup.Found.the-variants.{At, Nowhere}
 use Rattle.compressor.specs.declared.table.Table.{Table}
 use Rattle.compressor.specs.Answer.{Result, refused, delivered}
 use Rattle.compressor.specs.Table.{contextAt, withContext, soundOf}
@@ -23,11 +21,11 @@ use Rattle.compressor.specs.Lookup.{placeOf}
 ---- On a context
 
 -- rule 5.5: what followed the CSRC list goes out as it came
-abbrev pub sentBytes : ℕ → List ℕ → Header → Step → List ℕ
+abbrev pub sentBytes : ℕ → List ℕ → Header → Going → List ℕ
 sentBytes i p h a = linkBytes i (length p) h a ++ drop (headerSize h) p
 
-abbrev pub sendStep : Table → (i : ℕ) → (p output : List ℕ) → Header → Step → Result
-sendStep t i p output h a = delivered t (withContext t i (a .context)) (kindNumber (a .kind)) (sentBytes i p h a) output
+abbrev pub sendStep : Table → (i : ℕ) → (p output : List ℕ) → Header → Going → Result
+sendStep t i p output h a = delivered t (withContext t i (a .context)) (a .kind) (sentBytes i p h a) output
 
 unfoldable pub sendAt : Table → (i : ℕ) → (p output : List ℕ) → Result
 sendAt t i p output = sendStep t i p output (headerOf p) (stepOn (t .settings .repeats) (headerOf p) (contextAt t i))
@@ -39,9 +37,9 @@ abbrev pub sendPlain : Table → (p output : List ℕ) → Result
 sendPlain t p output = delivered t t 0 p output
 
 -- rule 5.4
-abbrev pub sendTo : Found → Table → (p output : List ℕ) → Result
-sendTo (At i) t p output = sendAt t i p output
-sendTo Nowhere t p output = sendPlain t p output
+abbrev pub sendTo : Option ℕ → Table → (p output : List ℕ) → Result
+sendTo (some i) t p output = sendAt t i p output
+sendTo none t p output = sendPlain t p output
 
 -- rule 3.2: 1, 2, 11
 unfoldable pub sendOf : Table → (p output : List ℕ) → Result

@@ -4,6 +4,7 @@ use Prim.Native.Nat.{ℕ, _≤_, _<_}
 use mathlib.Core.Path.{_≡_, refl, _∙_}
 use mathlib.Core.Bool.{Bool, true, false, cond, not, _&&_, and-eq-true-iff}
 use mathlib.Core.List.{List}
+use mathlib.Core.Option.{Option, none, some}
 use native.Mathlib.Omega.{arith}
 use borrow.Author.Tests.{leb-true, eqb-true}
 use lib.Dec.{leb, ltb}
@@ -13,15 +14,13 @@ use Rattle.headers.specs.Header.{headerOf}
 use Rattle.headers.specs.Compressible as headers
 use Rattle.context.specs.declared.compressor.Usage.{Usage}
 use Rattle.context.specs.declared.compressor.Usage.the-variants.{Empty, Live}
-use Rattle.context.specs.declared.step.Step.{Step}
-use Rattle.compressor.specs.declared.lookup.Found.{Found}
-use Rattle.compressor.specs.declared.lookup.Found.the-variants.{At, Nowhere}
+use Rattle.context.specs.Compressor.{Going}
 use Rattle.compressor.specs.declared.table.Table.{Table}
 use Rattle.compressor.specs.Answer.{Result, accepted, refused, delivered}
 use Rattle.compressor.specs.Table.{contextAt, withContext, isEmpty, emptyBy, soundOf}
 use Rattle.compressor.specs.Lookup.{sameFlow, isOf, lowest, orElse, placeOf}
 use Rattle.compressor.specs.LookupLaws.{lowest-found}
-use Rattle.compressor.specs.Send.{stepOn, kindNumber, sentBytes, sendAt, sendPlain, sendTo, sendOf}
+use Rattle.compressor.specs.Send.{stepOn, sentBytes, sendAt, sendPlain, sendTo, sendOf}
 
 ---- placeOf
 
@@ -45,7 +44,7 @@ sameFlow-true a b e =
     }
 
 module _ (t : Table) (f : Flow) (i : ℕ) where
-  place-of : lowest (isOf f) (t .contexts) 0 (t .settings .contexts) ≡ At i → Place t f i
+  place-of : lowest (isOf f) (t .contexts) 0 (t .settings .contexts) ≡ some i → Place t f i
   place-of e =
       let r = lowest-found (isOf f) (t .contexts) 0 (t .settings .contexts) i e in
       let b = and-eq-true-iff (not (isEmpty (contextAt t i))) (sameFlow f (contextAt t i .flow)) .0 (r .1) in
@@ -55,17 +54,17 @@ module _ (t : Table) (f : Flow) (i : ℕ) where
   live-empty Empty q e = let z : _≡_ {A = ℕ} 0 1 = cc in omega arith
   live-empty Live q e = let z : _≡_ {A = ℕ} 0 1 = cc in omega arith
 
-  place-empty : lowest isEmpty (t .contexts) 0 (t .settings .contexts) ≡ At i → Place t f i
+  place-empty : lowest isEmpty (t .contexts) 0 (t .settings .contexts) ≡ some i → Place t f i
   place-empty e =
       let r = lowest-found isEmpty (t .contexts) 0 (t .settings .contexts) i e in
       record { among = omega arith; flow = λ live. absurd (live-empty (contextAt t i .status) live (r .1)) }
 
-  place-either : (a b : Found) → lowest (isOf f) (t .contexts) 0 (t .settings .contexts) ≡ a
-      → lowest isEmpty (t .contexts) 0 (t .settings .contexts) ≡ b → orElse a b ≡ At i → Place t f i
-  place-either (At k) b p q e = place-of (p ∙ e)
-  place-either Nowhere b p q e = place-empty (q ∙ e)
+  place-either : (a b : Option ℕ) → lowest (isOf f) (t .contexts) 0 (t .settings .contexts) ≡ a
+      → lowest isEmpty (t .contexts) 0 (t .settings .contexts) ≡ b → orElse a b ≡ some i → Place t f i
+  place-either (some k) b p q e = place-of (p ∙ e)
+  place-either none b p q e = place-empty (q ∙ e)
 
-  pub placeOf-found : placeOf t f ≡ At i → Place t f i
+  pub placeOf-found : placeOf t f ≡ some i → Place t f i
   unfolding placeOf
   placeOf-found e = place-either (lowest (isOf f) (t .contexts) 0 (t .settings .contexts)) _ refl refl e
 
@@ -79,14 +78,14 @@ pub record On (t : Table) (p : List ℕ) (i : ℕ) : Type 0 where
   pub place : Place t (headerOf p .flow) i
 
 -- its step on context i, the table that this leaves, the type and the bytes that go out
-abbrev pub stepAt : Table → List ℕ → ℕ → Step
+abbrev pub stepAt : Table → List ℕ → ℕ → Going
 stepAt t p i = stepOn (t .settings .repeats) (headerOf p) (contextAt t i)
 
 abbrev pub tableAt : Table → List ℕ → ℕ → Table
 tableAt t p i = withContext t i (stepAt t p i .context)
 
 abbrev pub kindAt : Table → List ℕ → ℕ → ℕ
-kindAt t p i = kindNumber (stepAt t p i .kind)
+kindAt t p i = stepAt t p i .kind
 
 abbrev pub bytesAt : Table → List ℕ → ℕ → List ℕ
 bytesAt t p i = sentBytes i p (headerOf p) (stepAt t p i)
@@ -117,10 +116,11 @@ module _ (t : Table) (p output : List ℕ) where
     goes-unchanged : Goes t p output (sendPlain t p output)
     goes-unchanged = goes-delivered t 0 p (goes-plain sound least most)
 
-    goes-to : headers.compressible p ≡ true → (x : Found) → placeOf t (headerOf p .flow) ≡ x → Goes t p output (sendTo x t p output)
-    goes-to e (At i) q =
+    goes-to : headers.compressible p ≡ true → (x : Option ℕ) → placeOf t (headerOf p .flow) ≡ x
+        → Goes t p output (sendTo x t p output)
+    goes-to e (some i) q =
         goes-at i (record { sound = sound; compressible = e; most = most; place = placeOf-found t (headerOf p .flow) i q })
-    goes-to e Nowhere q = goes-unchanged
+    goes-to e none q = goes-unchanged
 
     goes-by : (b : Bool) → headers.compressible p ≡ b
         → Goes t p output (cond b (sendTo (placeOf t (headerOf p .flow)) t p output) (sendPlain t p output))

@@ -7,7 +7,7 @@ use native.Mathlib.Omega.{arith}
 use lib.ListN.{length, drop, take, length-append, length-drop}
 use Rattle.packet.specs.declared.header.Header.{Header}
 use Rattle.headers.specs.Header.{headerSize}
-use Rattle.context.specs.declared.step.Step.{Step}
+use Rattle.context.specs.Compressor.{Going}
 use Rattle.context.proofs.Arrays.{part-rest}
 use Rattle.outgoing.specs.Size.{linkSize, Writable}
 use Rattle.outgoing.specs.SizeLaws.{length-linkBytes}
@@ -20,7 +20,7 @@ length-rest p start = rw (part-rest p start) (length-drop start p)
 
 ---- sentBytes
 
-pub length-sentBytes : (i : ℕ) (p : List ℕ) (h : Header) (a : Step) → Writable h a
+pub length-sentBytes : (i : ℕ) (p : List ℕ) (h : Header) (a : Going) → Writable h a
     → length (sentBytes i p h a) ≡ linkSize h a + (length p - headerSize h)
 length-sentBytes i p h a w =
     let l = length-linkBytes i (length p) h a w in

@@ -10,9 +10,9 @@ use borrow.Author.Tests.{eqb-true, eqb-false}
 use lib.Dec.{eqb}
 use lib.ListN.{length, getD, set, drop, replicate}
 use lib.Seq.{drop-set-lt, getD-set-same, getD-set-other, set-out}
+use Rattle.codes.specs.Numbers.{unsound}
 use Rattle.settings.specs.Settings as settings
 use Rattle.settings.specs.declared.Settings.{Settings}
-use Rattle.settings.specs.declared.Opened.the-variants as opened
 use Rattle.context.specs.All.{all}
 use Rattle.context.proofs.AllLaws.{all-set, all-replicate, all-dropped}
 use Rattle.context.specs.Sound.{soundCompressor, emptyCompressor}
@@ -75,8 +75,8 @@ module _ (t : Table) (n k : ℕ) where
   abbrev chosen : Settings
   chosen = record { repeats = n; contexts = k }
 
-  openBy-accepted : (b : Bool) → openBy t (cond b (opened.Accepted chosen) opened.Refused) .number ≡ 0
-      → (b ≡ true) × (openBy t (cond b (opened.Accepted chosen) opened.Refused) .table ≡ emptyTable chosen)
+  openBy-accepted : (b : Bool) → openBy t (cond b (settings.accepted n k) (settings.refused unsound)) .number ≡ 0
+      → (b ≡ true) × (openBy t (cond b (settings.accepted n k) (settings.refused unsound)) .table ≡ emptyTable chosen)
   openBy-accepted true e = (refl, refl)
   openBy-accepted false e = absurd (omega arith)
 

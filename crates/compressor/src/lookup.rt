@@ -1,6 +1,6 @@
 ghost use mathlib.Core.Path.{_≡_};
 ghost use Prim.Native.Nat.{_≤_};
-ghost use Rattle.compressor.specs.Lookup.{isOf, sameFlow, lowest, placeOf};
+ghost use Rattle.compressor.specs.Lookup.{isOf, sameFlow, lowest, placeOf, placeIn};
 ghost use Rattle.compressor.specs.Table.{isEmpty};
 use crate::table::Table;
 use crate::table::is_empty;
@@ -32,7 +32,7 @@ fn is_of(f: Flow, c: CompressorContext) -> bool
 
 fn lowest_of(t: Table, f: Flow) -> Found
     requires { ⌜ t .settings .contexts ≤ 64 ⌝ }
-    ensures { λ r. ⌜ r ≡ lowest (isOf f) (t .contexts) 0 (t .settings .contexts) ⌝ }
+    ensures { λ r. ⌜ placeIn r ≡ lowest (isOf f) (t .contexts) 0 (t .settings .contexts) ⌝ }
 {
     let count = t.settings.contexts as usize;
     let mut i = 0;
@@ -48,7 +48,7 @@ fn lowest_of(t: Table, f: Flow) -> Found
 
 fn lowest_empty(t: Table) -> Found
     requires { ⌜ t .settings .contexts ≤ 64 ⌝ }
-    ensures { λ r. ⌜ r ≡ lowest isEmpty (t .contexts) 0 (t .settings .contexts) ⌝ }
+    ensures { λ r. ⌜ placeIn r ≡ lowest isEmpty (t .contexts) 0 (t .settings .contexts) ⌝ }
 {
     let count = t.settings.contexts as usize;
     let mut i = 0;
@@ -65,7 +65,7 @@ fn lowest_empty(t: Table) -> Found
 // The lowest context of the flow, else the lowest that is empty.
 pub fn find(t: Table, f: Flow) -> Found
     requires { ⌜ t .settings .contexts ≤ 64 ⌝ }
-    ensures { λ r. ⌜ r ≡ placeOf t f ⌝ }
+    ensures { λ r. ⌜ placeIn r ≡ placeOf t f ⌝ }
 {
     match lowest_of(t, f) {
         Found::At(i) => Found::At(i),

@@ -15,7 +15,8 @@ use Rattle.packet.specs.declared.header.Header.{Header}
 use Rattle.packet.specs.declared.parts.Parts.{Parts}
 use Rattle.context.specs.Field.{nextSequence, offPattern, isDue, movedOn}
 use Rattle.context.specs.Compressor.{resetDeltas, sameConstants, begun, reset, judged, adoptsId, adoptsTimestamp, dueNow}
-use Rattle.context.specs.Compressor.{anyDue, kindOf, listIf, partsOf, deltasAfter, moved, sentWith, sentFrom, stepOf}
+use Rattle.context.specs.Compressor.{anyDue, fullHeader, compressedUdp, compressedRtp, kindOf, listIf, partsOf, deltasAfter}
+use Rattle.context.specs.Compressor.{moved, sentWith, sentFrom, stepOf}
 use Rattle.context.specs.Decompressor.{filled, ipAfter, rtpAfter, deltasHeld, advanced, applied, rebuilt}
 use Rattle.context.proofs.Relation.{Held}
 use Rattle.context.proofs.Relation.{Constants, Running, Close, Related, Arrives, received, isFull, idTrack, idSeen}
@@ -26,8 +27,6 @@ use Rattle.context.specs.declared.compressor.Usage.the-variants as usage
 use Rattle.context.specs.declared.compressor.CompressorContext.{CompressorContext}
 use Rattle.context.specs.declared.decompressor.Status.the-variants.{Live}
 use Rattle.context.specs.declared.decompressor.DecompressorContext.{DecompressorContext}
-use Rattle.context.specs.declared.step.Kind.{Kind}
-use Rattle.context.specs.declared.step.Kind.the-variants.{FullHeader, CompressedUdp, CompressedRtp}
 use Rattle.context.proofs.Tests.{SameConstants, same-constants, adoptsId-off, adoptsTimestamp-off, adoptsId-full}
 use Rattle.context.proofs.Tests.{adoptsTimestamp-full, isDue-false, anyDue-false}
 use Rattle.context.proofs.FieldLaws.{cond-carried, delta-arrives, value-arrives, near-now}
@@ -119,11 +118,11 @@ module _ (n : ℕ) (v : DecompressorContext) (h : Header) (c : CompressorContext
   close-full f r = close-now n (c .link .generation) true h c resetDeltas flow (held .link) (deltas-full f r)
       (λ k. moved-running n h c f r)
 
-  kind-full : 1 ≤ c .due .full → (any : Bool) → kindOf (c .due .full) any ≡ FullHeader
+  kind-full : 1 ≤ c .due .full → (any : Bool) → kindOf (c .due .full) any ≡ fullHeader
   unfolding kindOf
   kind-full f any = rw (lt-ltb 0 (c .due .full) f)
 
-  not-full : (k : Kind) → k ≡ FullHeader → isFull k ≡ false → ⊥
+  not-full : (k : ℕ) → k ≡ fullHeader → isFull k ≡ false → ⊥
   not-full k e f = true≢false (sym (ap isFull e) ∙ f)
 
   full-arrives : 1 ≤ c .due .full → Running c → Arrives n v h (sentFrom n h c)
@@ -133,7 +132,7 @@ module _ (n : ℕ) (v : DecompressorContext) (h : Header) (c : CompressorContext
       record {
         gap = 1;
         after = filled h (c .link);
-        accepts = ap (λ (k : Kind). received k n h (c .link) (sentFrom n h c .parts) v) (kind-full f any);
+        accepts = ap (λ (k : ℕ). received k n h (c .link) (sentFrom n h c .parts) v) (kind-full f any);
         exact = filled-exact h (c .link);
         live = λ e. absurd (not-full _ (kind-full f any) e);
         carries = λ e. absurd (not-full _ (kind-full f any) e);
@@ -148,7 +147,7 @@ list-arrives true x y h = refl
 list-arrives false x y h = h refl
 
 received-part : (any : Bool) (n : ℕ) (h : Header) (l : Link) (p : Parts) (v : DecompressorContext) →
-    received (cond any CompressedUdp CompressedRtp) n h l p v ≡ applied n (l .sequence) v p
+    received (cond any compressedUdp compressedRtp) n h l p v ≡ applied n (l .sequence) v p
 received-part true n h l p v = refl
 received-part false n h l p v = refl
 
@@ -221,7 +220,7 @@ module _ (n j : ℕ) (v : DecompressorContext) (h : Header) (c : CompressorConte
         link = record { sequence = c .link .sequence; generation = v .link .generation };
       }
 
-  kind-part : c .due .full ≡ 0 → (any : Bool) → kindOf (c .due .full) any ≡ cond any CompressedUdp CompressedRtp
+  kind-part : c .due .full ≡ 0 → (any : Bool) → kindOf (c .due .full) any ≡ cond any compressedUdp compressedRtp
   unfolding kindOf
   kind-part z any = rw (le-ltb 0 (c .due .full) (omega arith))
 
@@ -239,7 +238,7 @@ module _ (n j : ℕ) (v : DecompressorContext) (h : Header) (c : CompressorConte
         gap = suc j;
         after = standing (c .link .sequence) (v .link .generation) (v .filled) h (deltasAfter (c .deltas) (judged h c));
         accepts =
-            ap (λ (k : Kind). received k n h (c .link) (sentFrom n h c .parts) v) (kind-part z any)
+            ap (λ (k : ℕ). received k n h (c .link) (sentFrom n h c .parts) v) (kind-part z any)
             ∙ received-part any n h (c .link) (sentFrom n h c .parts) v
             ∙ applied-in-step n j (c .link .sequence) v _ (sentFrom n h c .parts)
             (gap-lost (v .link .sequence) (c .link .sequence) j (omega arith) (m .listening .bound) (m .sequence)) few arrived;
@@ -259,12 +258,12 @@ full-step n v h s fits held flow f =
     full-arrives n v h (reset (begun n h s)) fits (ready-held n h s held) (flow ∙ sym (ready-kept n h s .flow))
     (rw (reset-full (begun n h s)) f) (reset-running (begun n h s) f)
 
-full-kind : (due any : Bool) → cond due FullHeader (cond any CompressedUdp CompressedRtp) ≡ FullHeader → due ≡ true
+full-kind : (due any : Bool) → cond due fullHeader (cond any compressedUdp compressedRtp) ≡ fullHeader → due ≡ true
 full-kind true any e = refl
 full-kind false true e = absurd (false≢true (ap isFull e))
 full-kind false false e = absurd (false≢true (ap isFull e))
 
-full-due : (n : ℕ) (h : Header) (s : CompressorContext) → stepOf n h s .kind ≡ FullHeader → 1 ≤ begun n h s .due .full
+full-due : (n : ℕ) (h : Header) (s : CompressorContext) → stepOf n h s .kind ≡ fullHeader → 1 ≤ begun n h s .due .full
 unfolding stepOf sentWith kindOf
 full-due n h s e =
     let c = reset (begun n h s) in
@@ -274,7 +273,7 @@ full-due n h s e =
 -- a full header arrives, whatever the decompressor has there
 pub related-full : (n : ℕ) (v : DecompressorContext) (h : Header) (s : CompressorContext) → HeaderInRange h → Held s
     → h .flow ≡ s .flow →
-    stepOf n h s .kind ≡ FullHeader → Arrives n v h (stepOf n h s)
+    stepOf n h s .kind ≡ fullHeader → Arrives n v h (stepOf n h s)
 related-full n v h s fits held flow e = full-step n v h s fits held flow (full-due n h s e)
 
 module _ (n j : ℕ) (v : DecompressorContext) (h : Header) (s : CompressorContext) (fits : HeaderInRange h)

@@ -13,14 +13,14 @@ use Rattle.packet.specs.RangesLaws.{range-noList}
 use Rattle.packet.specs.declared.csrc.Csrc.{Csrc}
 use Rattle.packet.specs.declared.header.Header.{Header}
 use Rattle.packet.specs.declared.parts.Parts.{Parts}
-use Rattle.context.specs.Compressor.{begun, reset, adoptsTimestamp, judged, dueNow, anyDue, kindOf, listIf, partsOf}
+use Rattle.context.specs.Compressor.{begun, reset, adoptsTimestamp, judged, dueNow, anyDue, listIf, partsOf}
+use Rattle.context.specs.Compressor.{fullHeader, compressedUdp, compressedRtp, kindOf}
 use Rattle.context.specs.Compressor.{deltasAfter, moved, sentWith, sentFrom, stepOf}
 use Rattle.context.proofs.Relation.{Held}
 use Rattle.context.specs.Sound.{soundLink, soundCompressor}
 use Rattle.context.specs.declared.compressor.Usage.the-variants.{Live}
 use Rattle.context.specs.declared.compressor.CompressorContext.{CompressorContext}
 use Rattle.context.specs.declared.step.DueNow.{DueNow}
-use Rattle.context.specs.declared.step.Kind.the-variants.{FullHeader, CompressedUdp, CompressedRtp}
 use Rattle.context.proofs.Tests.{cond-when, cond-both, adoptsTimestamp-coded, NoneDue, anyDue-false}
 use Rattle.context.proofs.Begun.{ready-held}
 use Rattle.context.proofs.Lost.{moved-held}
@@ -81,21 +81,32 @@ pub record Bare (p : Parts) : Type 0 where
   pub dts : p .dts .sent ≡ false
   pub listed : p .listed ≡ false
 
-full-udp : FullHeader ≡ CompressedUdp → ⊥
-full-udp e = let z : _≡_ {A = ℕ} 0 1 = cc in absurd (omega arith)
+-- the link types of a packet on a context
+pub data LinkType : ℕ → Type 0 where
+  full-header : LinkType fullHeader
+  compressed-udp : LinkType compressedUdp
+  compressed-rtp : LinkType compressedRtp
 
-full-rtp : FullHeader ≡ CompressedRtp → ⊥
-full-rtp e = let z : _≡_ {A = ℕ} 0 1 = cc in absurd (omega arith)
+kind-type : (full any : Bool) → LinkType (cond full fullHeader (cond any compressedUdp compressedRtp))
+kind-type true any = full-header
+kind-type false true = compressed-udp
+kind-type false false = compressed-rtp
 
-rtp-udp : CompressedRtp ≡ CompressedUdp → ⊥
-rtp-udp e = let z : _≡_ {A = ℕ} 0 1 = cc in absurd (omega arith)
+full-udp : fullHeader ≡ compressedUdp → ⊥
+full-udp e = omega arith
 
-kind-udp : (full any : Bool) → cond full FullHeader (cond any CompressedUdp CompressedRtp) ≡ CompressedUdp → any ≡ true
+full-rtp : fullHeader ≡ compressedRtp → ⊥
+full-rtp e = omega arith
+
+rtp-udp : compressedRtp ≡ compressedUdp → ⊥
+rtp-udp e = omega arith
+
+kind-udp : (full any : Bool) → cond full fullHeader (cond any compressedUdp compressedRtp) ≡ compressedUdp → any ≡ true
 kind-udp true any e = absurd (full-udp e)
 kind-udp false true e = refl
 kind-udp false false e = absurd (rtp-udp e)
 
-kind-rtp : (full any : Bool) → cond full FullHeader (cond any CompressedUdp CompressedRtp) ≡ CompressedRtp → any ≡ false
+kind-rtp : (full any : Bool) → cond full fullHeader (cond any compressedUdp compressedRtp) ≡ compressedRtp → any ≡ false
 kind-rtp true any e = absurd (full-rtp e)
 kind-rtp false true e = absurd (rtp-udp (sym e))
 kind-rtp false false e = refl
@@ -123,8 +134,13 @@ module _ (n : ℕ) (h : Header) (s : CompressorContext) where
   pub step-unlisted : stepOf n h s .parts .listed ≡ false → stepOf n h s .parts .csrc ≡ noList
   step-unlisted e = list-step ∙ list-unlisted (stepOf n h s .parts .listed) (h .csrc) e
 
+  pub step-type : LinkType (stepOf n h s .kind)
+  unfolding stepOf sentWith kindOf
+  step-type = kind-type (ltb 0 (reset (begun n h s) .due .full))
+      (anyDue (dueNow (reset (begun n h s) .due) (judged h (reset (begun n h s)))))
+
   -- a CU has the list, and no difference of the sequence
-  pub cu-listed : stepOf n h s .kind ≡ CompressedUdp → stepOf n h s .parts .listed ≡ true
+  pub cu-listed : stepOf n h s .kind ≡ compressedUdp → stepOf n h s .parts .listed ≡ true
   unfolding stepOf sentWith partsOf kindOf
   cu-listed e = kind-udp (ltb 0 (reset (begun n h s) .due .full))
       (anyDue (dueNow (reset (begun n h s) .due) (judged h (reset (begun n h s))))) e
@@ -134,7 +150,7 @@ module _ (n : ℕ) (h : Header) (s : CompressorContext) where
   step-dsn = refl
 
   -- a CR has neither list nor field
-  pub cr-bare : stepOf n h s .kind ≡ CompressedRtp → Bare (stepOf n h s .parts)
+  pub cr-bare : stepOf n h s .kind ≡ compressedRtp → Bare (stepOf n h s .parts)
   unfolding stepOf sentWith partsOf kindOf
   cr-bare e =
       let now = dueNow (reset (begun n h s) .due) (judged h (reset (begun n h s))) in

@@ -3,11 +3,12 @@
 -- Used by the laws of each step, and by robustness over lists of calls (rule 10).
 use Prim.Native.Nat.{ℕ, _+_, _%_, _^_, _≤_, _<_}
 use mathlib.Core.Path.{_≡_}
-use mathlib.Core.Bool.{Bool, true, false}
+use mathlib.Core.Bool.{Bool, false, cond}
+use lib.Dec.{eqb}
 use Rattle.packet.specs.declared.header.Header.{Header}
 use Rattle.packet.specs.declared.parts.Parts.{Parts}
 use Rattle.context.specs.Field.{steps}
-use Rattle.context.specs.Compressor.{checksumSent}
+use Rattle.context.specs.Compressor.{fullHeader, checksumSent, Going}
 use Rattle.context.specs.Decompressor.{filled, applied, checksumRead, rebuilt}
 use Rattle.context.specs.declared.kept.Link.{Link}
 use Rattle.context.specs.declared.compressor.Usage.the-variants as usage
@@ -16,9 +17,6 @@ use Rattle.context.specs.declared.decompressor.Status.the-variants.{Live
 use Rattle.context.specs.declared.decompressor.DecompressorContext.{DecompressorContext}
 use Rattle.packet.specs.declared.refusal.Verdict.the-variants.{Accepted}
 use Rattle.context.specs.declared.decompressor.Applied.{Applied}
-use Rattle.context.specs.declared.step.Kind.{Kind}
-use Rattle.context.specs.declared.step.Kind.the-variants.{FullHeader, CompressedUdp, CompressedRtp}
-use Rattle.context.specs.declared.step.Step.{Step}
 
 ---- One changing field
 
@@ -120,23 +118,19 @@ pub record Related (n j : ℕ) (v : DecompressorContext) (s : CompressorContext)
 
 ---- A packet that arrives
 
+abbrev pub isFull : (kind : ℕ) → Bool
+isFull k = eqb k fullHeader
+
 -- what the decompressor makes of it; h: the header that a full header carries, which is never a guess: a gap of 1 stands for it
-abbrev pub received : Kind → (n : ℕ) → Header → Link → Parts → DecompressorContext → Applied
-received FullHeader n h l p v = record { verdict = Accepted; gap = 1; context = filled h l }
-received CompressedUdp n h l p v = applied n (l .sequence) v p
-received CompressedRtp n h l p v = applied n (l .sequence) v p
+abbrev pub received : (kind n : ℕ) → Header → Link → Parts → DecompressorContext → Applied
+received k n h l p v = cond (isFull k) (record { verdict = Accepted; gap = 1; context = filled h l }) (applied n (l .sequence) v p)
 
-abbrev pub receivedOf : (n : ℕ) → Header → Step → DecompressorContext → Applied
+abbrev pub receivedOf : (n : ℕ) → Header → Going → DecompressorContext → Applied
 receivedOf n h a v = received (a .kind) n h (a .link) (a .parts) v
-
-abbrev pub isFull : Kind → Bool
-isFull FullHeader = true
-isFull CompressedUdp = false
-isFull CompressedRtp = false
 
 -- it is accepted, its header is rebuilt, and nothing is lost any more. A CU or CR finds a live context (rule 3.3 has 8 before
 -- the fields) that reads the UDP checksum exactly where the compressor wrote it
-pub record Arrives (n : ℕ) (v : DecompressorContext) (h : Header) (a : Step) : Type 0 where
+pub record Arrives (n : ℕ) (v : DecompressorContext) (h : Header) (a : Going) : Type 0 where
   pub gap : ℕ
   pub after : DecompressorContext
   pub accepts : receivedOf n h a v ≡ record { verdict = Accepted; gap = gap; context = after }

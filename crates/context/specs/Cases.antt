@@ -12,12 +12,11 @@ use Rattle.packet.specs.declared.parts.Parts.{Parts}
 use Rattle.context.specs.Field.{nextSequence, nextGeneration, offPattern, counted, isDue, gap, movedOn}
 use Rattle.context.specs.Compressor.{first, started, sameConstants, begun, startedUnlessDue, requested, reset, adoptsId}
 use Rattle.context.specs.Compressor.{adoptsTimestamp, judged, dueNow, anyDue, kindOf, listIf, partsOf, dueAfter, deltasAfter}
-use Rattle.context.specs.Compressor.{moved, sentWith, stepOf}
+use Rattle.context.specs.Compressor.{fullHeader, compressedRtp, moved, sentWith, stepOf}
 use Rattle.packet.specs.Refusal.{verdictNumber}
 use Rattle.context.specs.Decompressor.{filled, gapVerdict, ipAfter, rtpAfter, deltasHeld, advanced, broke, settled, applied}
 use Rattle.context.specs.Decompressor.{rebuilt}
 use Rattle.context.specs.Sound.{emptyCompressor}
-use Rattle.context.specs.declared.step.Kind.the-variants.{FullHeader, CompressedRtp}
 use Rattle.context.specs.declared.compressor.CompressorContext.{CompressorContext}
 use Rattle.context.specs.declared.decompressor.DecompressorContext.{DecompressorContext}
 
@@ -81,7 +80,7 @@ pub record Compressing : Type 0 where
   pub jumped-parts : stepOf 1 (voice 3 9 20) jumped .parts .timestamp ≡ sentIf32 true 20
   pub jumped-delta : stepOf 1 (voice 3 9 20) jumped .parts .dts ≡ sentIf32 false 0
   -- rule 8.8: nothing is due
-  pub steady-kind : stepOf 0 (voice 4 10 1010) steady .kind ≡ CompressedRtp
+  pub steady-kind : stepOf 0 (voice 4 10 1010) steady .kind ≡ compressedRtp
   -- rule 12.1: 3010 after 1000 keeps the delta 10, and is sent whole
   pub silence-delta : after 0 steady (voice 4 10 3010) .deltas .timestamp ≡ 10
   pub silence-parts : stepOf 0 (voice 4 10 3010) steady .parts .timestamp ≡ sentIf32 true 3010
@@ -91,7 +90,7 @@ pub record Compressing : Type 0 where
   -- rule 8.6: a third 5 has it
   pub third-delta : stepOf 0 (voice 5 9 10) (after 0 (opened 0 (voice 5 7 10)) (voice 5 8 10)) .parts .did ≡ sentIf16 true 0
   -- rule 8.3: another TOS starts a run, its generation one higher
-  pub changed-kind : stepOf 0 (packet 1 4 10 1010) steady .kind ≡ FullHeader
+  pub changed-kind : stepOf 0 (packet 1 4 10 1010) steady .kind ≡ fullHeader
   pub changed-generation : stepOf 0 (packet 1 4 10 1010) steady .link .generation ≡ 1
   -- rules 9.4, 9.5: a request is skipped while full headers are due and where the context is empty; else it starts a run
   pub request-due : requested 1 (opened 1 (voice 1 7 10)) ≡ opened 1 (voice 1 7 10)

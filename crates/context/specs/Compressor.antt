@@ -183,15 +183,19 @@ dueNow d j = record {
 unfoldable pub anyDue : DueNow → Bool
 anyDue d = d .id || d .sequence || d .timestamp || d .payload || d .did || d .dts || d .list
 
--- rules 8.2, 8.8: FH while full headers are due; else CU if anything is due; else CR
-unfoldable pub kindOf : (full : ℕ) (any : Bool) → Kind
-kindOf full any = cond (ltb 0 full) FullHeader (cond any CompressedUdp CompressedRtp)
+-- rule 1.1: the link types of a packet on a context
+abbrev pub fullHeader : ℕ
+fullHeader = 1
 
--- rule 1.1: the link type beside the bytes
-abbrev pub kindNumber : Kind → ℕ
-kindNumber FullHeader = 1
-kindNumber CompressedUdp = 2
-kindNumber CompressedRtp = 3
+abbrev pub compressedUdp : ℕ
+compressedUdp = 2
+
+abbrev pub compressedRtp : ℕ
+compressedRtp = 3
+
+-- rules 8.2, 8.8: FH while full headers are due; else CU if anything is due; else CR
+unfoldable pub kindOf : (full : ℕ) (any : Bool) → ℕ
+kindOf full any = cond (ltb 0 full) fullHeader (cond any compressedUdp compressedRtp)
 
 -- rules 6.2, 6.3: a CU or CR on this context has the UDP checksum in the checksum's place, else nothing
 abbrev pub checksumSent : CompressorContext → Bool
@@ -256,8 +260,15 @@ moved n h c j = record {
 
 ---- A packet, whole
 
+-- what goes out: the link type; the link sequence and the generation; what a CU or CR carries; and the context after it
+pub record Going : Type 0 where
+  pub kind : ℕ
+  pub link : Link
+  pub parts : Parts
+  pub context : CompressorContext
+
 -- sent from a context that is ready for it; now: what is due in it
-unfoldable pub sentWith : ℕ → Header → CompressorContext → Judged → DueNow → Step
+unfoldable pub sentWith : ℕ → Header → CompressorContext → Judged → DueNow → Going
 sentWith n h c j now = record {
   kind = kindOf (c .due .full) (anyDue now);
   link = c .link;
@@ -265,21 +276,31 @@ sentWith n h c j now = record {
   context = moved n h c j;
 }
 
-abbrev pub sentFrom : ℕ → Header → CompressorContext → Step
+abbrev pub sentFrom : ℕ → Header → CompressorContext → Going
 sentFrom n h c = sentWith n h c (judged h c) (dueNow (c .due) (judged h c))
 
 -- any packet after a context's first
-unfoldable pub stepOf : ℕ → Header → CompressorContext → Step
+unfoldable pub stepOf : ℕ → Header → CompressorContext → Going
 stepOf n h c = sentFrom n h (reset (begun n h c))
 
 -- a context's first packet: a full header, and nothing beside it
 abbrev pub nothingDue : DueNow
 nothingDue = record { id = false; sequence = false; timestamp = false; payload = false; list = false; did = false; dts = false }
 
-unfoldable pub firstStep : ℕ → Header → Link → Step
+unfoldable pub firstStep : ℕ → Header → Link → Going
 firstStep n h l = record {
-  kind = FullHeader;
+  kind = fullHeader;
   link = l;
   parts = partsOf h nothingDue false resetDeltas;
   context = first n h l;
 }
+
+---- number and values of each answer
+
+abbrev pub kindNumber : Kind → ℕ
+kindNumber FullHeader = fullHeader
+kindNumber CompressedUdp = compressedUdp
+kindNumber CompressedRtp = compressedRtp
+
+abbrev pub stepped : Step → Going
+stepped a = record { kind = kindNumber (a .kind); link = a .link; parts = a .parts; context = a .context }

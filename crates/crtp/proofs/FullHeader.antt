@@ -2,7 +2,7 @@
 -- sound table of the same settings is enough. Assumes nothing.
 -- A law of its own: the theorem starts from openings and does not need it; a decompressor of unknown past comes into step by it.
 use Prim.Native.Nat.{ℕ, _≤_}
-use mathlib.Core.Path.{_≡_, refl}
+use mathlib.Core.Path.{_≡_}
 use mathlib.Core.Bool.{true}
 use mathlib.Core.List.{List}
 use mathlib.Core.Option.{some}
@@ -10,12 +10,9 @@ use native.Mathlib.Omega.{arith}
 use native.Mathlib.Decide.{decLe}
 use lib.ListN.{length}
 use Rattle.settings.specs.declared.Settings.{Settings}
-use Rattle.context.specs.declared.step.Kind.{Kind}
-use Rattle.context.specs.declared.step.Kind.the-variants.{FullHeader, CompressedUdp, CompressedRtp}
-use Rattle.context.specs.Compressor.{kindNumber}
 use Rattle.compressor.specs.declared.table.Table as compressor
 use Rattle.compressor.specs.Send.{sendOf}
-use Rattle.compressor.specs.SendLaws.{On, stepAt, tableAt, kindAt, bytesAt}
+use Rattle.compressor.specs.SendLaws.{On, tableAt, kindAt, bytesAt}
 use Rattle.decompressor.specs.declared.table.Table as decompressor
 use Rattle.decompressor.specs.Receive.{receiveOf}
 use Rattle.calls.specs.Calls as calls
@@ -26,18 +23,12 @@ use Rattle.crtp.proofs.Given.{gave, gave-here}
 use Rattle.crtp.proofs.OneContext.{Accepts, accepts-full, here-taken, here-lacks}
 use Rattle.crtp.proofs.Laws.{received}
 
--- only a full header has type 1
-kind-one : (k : Kind) → kindNumber k ≡ 1 → k ≡ FullHeader
-kind-one FullHeader e = refl
-kind-one CompressedUdp e = absurd (omega arith)
-kind-one CompressedRtp e = absurd (omega arith)
-
 module _ (s : Settings) (t : compressor.Table) (sender : SenderFit s t) (d : decompressor.Table) (receiver : ReceiverFit s d)
     (p : Bytes) (c : ℕ) where
   module _ (on : On t (p .list) c) (full : kindAt t (p .list) c ≡ 1) (output : List ℕ)
       (accepted : receiveOf d (kindAt t (p .list) c) (bytesAt t (p .list) c) output .number ≡ 0) where
     accepts : Accepts s t sender d receiver p c on (t .settings)
-    accepts = accepts-full s t sender d receiver p c on (kind-one (stepAt t (p .list) c .kind) full)
+    accepts = accepts-full s t sender d receiver p c on full
 
     -- accepted, it had room
     roomy : Dec (length (p .list) ≤ length output) → length (p .list) ≤ length output

@@ -22,10 +22,8 @@ use Rattle.links.specs.FhLaws.{FhFits, allBytes-fhBytes, fhOf-fhBytes}
 use Rattle.links.specs.declared.fh.FullHeader as fh
 use Rattle.links.specs.CuLaws.{first-cuBytes, allBytes-cuBytes}
 use Rattle.links.specs.CrLaws.{first-crBytes, allBytes-crBytes}
-use Rattle.context.specs.declared.step.Kind.{Kind}
-use Rattle.context.specs.declared.step.Kind.the-variants.{FullHeader, CompressedUdp, CompressedRtp}
-use Rattle.context.specs.declared.step.Step.{Step}
-use Rattle.context.specs.Compressor.{kindNumber}
+use Rattle.context.specs.Compressor.{fullHeader, Going}
+use Rattle.context.proofs.PartsLaws.{LinkType, full-header, compressed-udp, compressed-rtp}
 use Rattle.outgoing.specs.Outgoing.{linkBy, linkBytes}
 use Rattle.outgoing.specs.Size.{Writable}
 use Rattle.compressor.specs.declared.table.Table as compressor
@@ -91,11 +89,10 @@ module _ (t : compressor.Table) (p output : List ℕ) where
 ---- A packet on context i
 
 -- what is not plain counts for the context that its bytes name
-frame-named : (k : Kind) (bytes : List ℕ)
-    → frameContext (record { kind = kindNumber k; bytes = bytes }) ≡ some (named (kindNumber k) bytes)
-frame-named FullHeader bytes = refl
-frame-named CompressedUdp bytes = refl
-frame-named CompressedRtp bytes = refl
+frame-named : (k : ℕ) → LinkType k → (bytes : List ℕ) → frameContext (record { kind = k; bytes = bytes }) ≡ some (named k bytes)
+frame-named _ full-header bytes = refl
+frame-named _ compressed-udp bytes = refl
+frame-named _ compressed-rtp bytes = refl
 
 module _ (s : Settings) (t : compressor.Table) (fit : SenderFit s t) (p : Bytes) where
   module _ (i : ℕ) (on : On t (p .list) i) where
@@ -113,7 +110,7 @@ module _ (s : Settings) (t : compressor.Table) (fit : SenderFit s t) (p : Bytes)
     byte-sized : i < 256
     byte-sized = omega (arith, on .place .among, few-contexts)
 
-    abbrev a : Step
+    abbrev a : Going
     a = stepAt t (p .list) i
 
     abbrev h : Header
@@ -122,45 +119,45 @@ module _ (s : Settings) (t : compressor.Table) (fit : SenderFit s t) (p : Bytes)
     fits : FhFits (t .settings .contexts) i (a .link .generation) (a .link .sequence) h
     fits = full-fits writable (omega (arith, few-contexts)) (on .place .among)
 
-    abbrev front : Kind → List ℕ
+    abbrev front : ℕ → List ℕ
     front k = linkBy k i (length (p .list)) h a
 
     abbrev rest : List ℕ
     rest = drop (headerSize h) (p .list)
 
     -- its bytes are bytes
-    front-bytes : (k : Kind) → a .kind ≡ k → AllBytes (front k)
-    front-bytes FullHeader e =
+    front-bytes : (k : ℕ) → LinkType k → a .kind ≡ k → AllBytes (front k)
+    front-bytes _ full-header e =
         allBytes-fhBytes (t .settings .contexts) i (a .link .generation) (a .link .sequence) (length (p .list)) h fits
-    front-bytes CompressedUdp e =
+    front-bytes _ compressed-udp e =
         allBytes-cuBytes i (a .link .sequence) (not (a .context .blank)) (a .parts) (carried .udp e) byte-sized
-    front-bytes CompressedRtp e =
+    front-bytes _ compressed-rtp e =
         allBytes-crBytes i (a .link .sequence) (not (a .context .blank)) (a .parts) (carried .rtp e) byte-sized
 
     bytes-at : AllBytes (bytesAt t (p .list) i)
     unfolding linkBytes
-    bytes-at = allBytes-append (front-bytes (a .kind) refl) (allBytes-drop (headerSize h) (p .small))
+    bytes-at = allBytes-append (front-bytes (a .kind) (carried .type) refl) (allBytes-drop (headerSize h) (p .small))
 
     -- the context number that it carries
-    full-context : byteAt (front FullHeader ++ rest) 3 ≡ i
+    full-context : byteAt (front fullHeader ++ rest) 3 ≡ i
     unfolding fhOf
     full-context =
         ap (λ (x : fh.FullHeader). x .context)
         (fhOf-fhBytes (t .settings .contexts) i (a .link .generation) (a .link .sequence) (length (p .list)) h fits rest)
 
-    named-by : (k : Kind) → a .kind ≡ k → named (kindNumber k) (front k ++ rest) ≡ i
-    named-by FullHeader e = full-context
-    named-by CompressedUdp e =
+    named-by : (k : ℕ) → LinkType k → a .kind ≡ k → named k (front k ++ rest) ≡ i
+    named-by _ full-header e = full-context
+    named-by _ compressed-udp e =
         first-cuBytes i (a .link .sequence) (not (a .context .blank)) (a .parts) (carried .udp e) rest
-    named-by CompressedRtp e =
+    named-by _ compressed-rtp e =
         first-crBytes i (a .link .sequence) (not (a .context .blank)) (a .parts) (carried .rtp e) rest
 
     pub named-at : named (kindAt t (p .list) i) (bytesAt t (p .list) i) ≡ i
     unfolding linkBytes
-    named-at = named-by (a .kind) refl
+    named-at = named-by (a .kind) (carried .type) refl
 
     context-at : frameContext (frameAt t (p .list) i) ≡ some i
-    context-at = frame-named (a .kind) (bytesAt t (p .list) i) ∙ ap (λ (m : ℕ). some m) named-at
+    context-at = frame-named (a .kind) (carried .type) (bytesAt t (p .list) i) ∙ ap (λ (m : ℕ). some m) named-at
 
   ---- What was given out, seen from context c
 

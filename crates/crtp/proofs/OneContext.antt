@@ -14,7 +14,7 @@ use Rattle.headers.specs.Header.{headerOf}
 use Rattle.headers.specs.HeaderLaws.{headerOf-range}
 use Rattle.context.proofs.Relation.{Related, Arrives}
 use Rattle.context.specs.declared.decompressor.DecompressorContext.{DecompressorContext}
-use Rattle.context.specs.declared.step.Kind.the-variants.{FullHeader}
+use Rattle.context.specs.Compressor.{fullHeader}
 use Rattle.outgoing.specs.StepLaws.{lost-stepOn, arrives-stepOn, full-stepOn}
 use Rattle.compressor.specs.declared.table.Table as compressor
 use Rattle.compressor.specs.Table as compressing
@@ -76,7 +76,7 @@ module _ (s : Settings) (t : compressor.Table) (sender : SenderFit s t) (d : dec
         arrives-stepOn (t .settings .repeats) (headerOf (p .list)) (headerOf-range (p .small)) (compressing.contextAt t c)
         (decompressing.contextAt d c) (on .place .flow) j r (sound-repeats t (sender .sound))
 
-    pub accepts-full : stepAt t (p .list) c .kind ≡ FullHeader → Accepts (t .settings)
+    pub accepts-full : stepAt t (p .list) c .kind ≡ fullHeader → Accepts (t .settings)
     accepts-full =
         full-stepOn (t .settings .repeats) (headerOf (p .list)) (headerOf-range (p .small)) (compressing.contextAt t c)
         (decompressing.contextAt d c) (on .place .flow) (sender .held c)

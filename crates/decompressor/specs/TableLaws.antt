@@ -7,10 +7,10 @@ use mathlib.Core.List.{List, [], _∷_}
 use native.Mathlib.Omega.{arith}
 use lib.ListN.{length, getD, set, drop, replicate}
 use lib.Seq.{drop-set-lt}
+use Rattle.codes.specs.Numbers.{unsound}
 use Rattle.settings.specs.Settings as settings
 use Rattle.settings.specs.SettingsLaws.{range-repeats, range-most}
 use Rattle.settings.specs.declared.Settings.{Settings}
-use Rattle.settings.specs.declared.Opened.the-variants as opened
 use Rattle.context.specs.All.{all}
 use Rattle.context.proofs.AllLaws.{all-getD, all-set, all-replicate, all-dropped}
 use Rattle.context.specs.Sound.{soundDecompressor, soundDecompressorBy, unfilledSound, zeroList, emptyDecompressor}
@@ -77,8 +77,8 @@ module _ (t : Table) (n k : ℕ) where
   abbrev chosen : Settings
   chosen = record { repeats = n; contexts = k }
 
-  openBy-accepted : (b : Bool) → openBy t (cond b (opened.Accepted chosen) opened.Refused) .number ≡ 0
-      → (b ≡ true) × (openBy t (cond b (opened.Accepted chosen) opened.Refused) .table ≡ emptyTable chosen)
+  openBy-accepted : (b : Bool) → openBy t (cond b (settings.accepted n k) (settings.refused unsound)) .number ≡ 0
+      → (b ≡ true) × (openBy t (cond b (settings.accepted n k) (settings.refused unsound)) .table ≡ emptyTable chosen)
   openBy-accepted true e = (refl, refl)
   openBy-accepted false e = absurd (omega arith)
 

@@ -3,7 +3,9 @@
 use Prim.Native.Nat.{ℕ, _+_, _*_, _≤_}
 use mathlib.Core.Path.{_≡_}
 use mathlib.Core.Bool.{Bool, true, false, cond, not}
+use mathlib.Core.List.{List}
 use native.Mathlib.Omega.{arith}
+use lib.Dec.{eqb}
 use lib.ListN.{length}
 use Rattle.codes.specs.Code.{codeOf}
 use Rattle.codes.specs.CodeLaws.{length-codeOf}
@@ -17,23 +19,38 @@ use Rattle.headers.specs.Checksum.{ipChecksum}
 use Rattle.links.specs.Fh.{ipField, fhBytes}
 use Rattle.links_write.specs.Size.{cuSize, crSize}
 use Rattle.links_write.specs.SizeLaws.{length-cuBytes, length-crBytes}
-use Rattle.context.specs.declared.step.Kind.{Kind}
-use Rattle.context.specs.declared.step.Kind.the-variants.{FullHeader, CompressedUdp, CompressedRtp}
-use Rattle.context.specs.declared.step.Step.{Step}
+use Rattle.context.specs.Compressor.{fullHeader, compressedUdp, compressedRtp, Going}
+use Rattle.context.proofs.Tests.{cond-both}
 use Rattle.outgoing.specs.Outgoing.{linkBy, linkBytes}
 use Rattle.outgoing.specs.Size.{sizeBy, linkSize, Writable}
 
 ---- linkBytes
 
-module _ (i total : ℕ) (h : Header) (a : Step) (w : Writable h a) where
-  length-fh : length (linkBy FullHeader i total h a) ≡ headerSize h
+-- one of three lists, each with its length
+length-one : (full udp : Bool) (x y z : List ℕ) {l m n : ℕ} → length x ≡ l → length y ≡ m → length z ≡ n
+    → length (cond full x (cond udp y z)) ≡ cond full l (cond udp m n)
+length-one true udp x y z e f g = e
+length-one false true x y z e f g = f
+length-one false false x y z e f g = g
+
+module _ (i total : ℕ) (h : Header) (a : Going) (w : Writable h a) where
+  abbrev front : (kind : ℕ) → List ℕ
+  front k = linkBy k i total h a
+
+  length-fh : length (front fullHeader) ≡ sizeBy fullHeader h a
   unfolding fhBytes
   length-fh = length-headerBytes (ipField i (a .link .generation)) (a .link .sequence) (ipChecksum h total) h (w .header)
 
-  length-by : (k : Kind) → length (linkBy k i total h a) ≡ sizeBy k h a
-  length-by FullHeader = length-fh
-  length-by CompressedUdp = length-cuBytes i (a .link .sequence) (not (a .context .blank)) (a .parts) (w .words)
-  length-by CompressedRtp = length-crBytes i (a .link .sequence) (not (a .context .blank)) (a .parts) (w .words)
+  length-cu : length (front compressedUdp) ≡ sizeBy compressedUdp h a
+  length-cu = length-cuBytes i (a .link .sequence) (not (a .context .blank)) (a .parts) (w .words)
+
+  length-cr : length (front compressedRtp) ≡ sizeBy compressedRtp h a
+  length-cr = length-crBytes i (a .link .sequence) (not (a .context .blank)) (a .parts) (w .words)
+
+  length-by : (k : ℕ) → length (front k) ≡ sizeBy k h a
+  length-by k =
+      length-one (eqb k fullHeader) (eqb k compressedUdp) (front fullHeader) (front compressedUdp) (front compressedRtp)
+      length-fh length-cu length-cr
 
   pub length-linkBytes : length (linkBytes i total h a) ≡ linkSize h a
   unfolding linkBytes linkSize
@@ -71,12 +88,17 @@ module _ (carried : Bool) (h : Parts) where
     length-delta 32 (h .dts .value) (h .dts .sent),
   )
 
-module _ (h : Header) (a : Step) (w : Writable h a) where
-  size-by : (k : Kind) → (1 ≤ sizeBy k h a) × (sizeBy k h a ≤ headerSize h)
-  size-by FullHeader = (omega arith, omega arith)
-  size-by CompressedUdp = (omega arith, omega (arith, cuSize-most (not (a .context .blank)) (a .parts), w .list))
-  size-by CompressedRtp = (omega arith, omega (arith, crSize-most (not (a .context .blank)) (a .parts), w .list))
+module _ (h : Header) (a : Going) (w : Writable h a) where
+  abbrev Fair : ℕ → Type 0
+  Fair size = (1 ≤ size) × (size ≤ headerSize h)
+
+  size-by : (k : ℕ) → Fair (sizeBy k h a)
+  size-by k =
+      cond-both Fair (eqb k fullHeader) _ _ (omega arith, omega arith)
+      (cond-both Fair (eqb k compressedUdp) _ _
+      (omega arith, omega (arith, cuSize-most (not (a .context .blank)) (a .parts), w .list))
+      (omega arith, omega (arith, crSize-most (not (a .context .blank)) (a .parts), w .list)))
 
   -- what stands before the rest of the packet is no longer than the packet's header, so a link packet is no longer than its packet
-  pub linkBy-most : (k : Kind) (i total : ℕ) → (1 ≤ length (linkBy k i total h a)) × (length (linkBy k i total h a) ≤ headerSize h)
+  pub linkBy-most : (k i total : ℕ) → (1 ≤ length (linkBy k i total h a)) × (length (linkBy k i total h a) ≤ headerSize h)
   linkBy-most k i total = rw (length-by i total h a w k) (size-by k)

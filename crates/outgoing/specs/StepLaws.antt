@@ -13,7 +13,8 @@ use Rattle.packet.specs.declared.csrc.Csrc.{Csrc}
 use Rattle.packet.specs.declared.header.Header.{Header}
 use Rattle.links.specs.FitsLaws.{CuFits, CrFits}
 use Rattle.links.specs.FhLaws.{FhFits}
-use Rattle.context.specs.Compressor.{firstStep, stepOf, partsOf, listIf, begun, reset, checksumSent}
+use Rattle.context.specs.Compressor.{fullHeader, compressedUdp, compressedRtp, Going, firstStep, stepOf, partsOf, listIf, begun}
+use Rattle.context.specs.Compressor.{reset, checksumSent}
 use Rattle.context.proofs.Relation.{Held, Related, Arrives, isFull}
 use Rattle.context.specs.Sound.{soundLink, soundCompressor, emptyDecompressor}
 use Rattle.context.specs.declared.compressor.Usage.{Usage}
@@ -21,12 +22,10 @@ use Rattle.context.specs.declared.compressor.Usage.the-variants.{Empty, Live}
 use Rattle.context.specs.declared.compressor.CompressorContext.{CompressorContext}
 use Rattle.context.specs.declared.decompressor.DecompressorContext.{DecompressorContext}
 use Rattle.context.specs.declared.kept.Link.{Link}
-use Rattle.context.specs.declared.step.Kind.{Kind}
-use Rattle.context.specs.declared.step.Kind.the-variants.{FullHeader, CompressedUdp, CompressedRtp}
-use Rattle.context.specs.declared.step.Step.{Step}
 use Rattle.context.proofs.Tests.{cond-both}
 use Rattle.context.proofs.SoundFacts.{LinkBounds, soundLink-bounds}
 use Rattle.context.proofs.CompressorSound.{sound-first, sound-step}
+use Rattle.context.proofs.PartsLaws.{LinkType, full-header, step-type}
 use Rattle.context.proofs.PartsLaws.{parts-step, link-step, list-step, step-unlisted, cu-listed, step-dsn, cr-bare}
 use Rattle.context.proofs.Begun.{ready-held}
 use Rattle.context.proofs.Lost.{related-lost, moved-held, step-context}
@@ -51,7 +50,7 @@ module _ (n : ℕ) (h : Header) (c : CompressorContext) where
   stepOn-live e = ap (λ (u : Usage). stepBy u n h c) e
 
   -- what holds of a first step and of a later one holds of both
-  pub stepOn-either : (P : Step → Type 0) → P (firstStep n h firstLink) → (c .status ≡ Live → P (stepOf n h c)) → P (stepOn n h c)
+  pub stepOn-either : (P : Going → Type 0) → P (firstStep n h firstLink) → (c .status ≡ Live → P (stepOf n h c)) → P (stepOn n h c)
   unfolding stepOn
   stepOn-either P a b = by (c .status) refl
     where
@@ -80,7 +79,7 @@ module _ (n : ℕ) (h : Header) (r : HeaderInRange h) where
       let l = list-of false in
       record { header = r; sequence = omega arith; generation = omega arith; list = l .0; words = l .1 }
 
-  writable-from : (a : Step) → LinkBounds (a .link) → a .parts .csrc ≡ listIf (a .parts .listed) (h .csrc) → Writable h a
+  writable-from : (a : Going) → LinkBounds (a .link) → a .parts .csrc ≡ listIf (a .parts .listed) (h .csrc) → Writable h a
   writable-from a b e =
       let l = list-of (a .parts .listed) in
       record {
@@ -142,23 +141,24 @@ module _ (n : ℕ) (h : Header) (r : HeaderInRange h) where
             stepOn-either n h c (λ a. Arrives n v h a) arrives-first (λ live. related-arrives n j v h c r (flow live) k live most)
 
         -- a full header arrives whatever the decompressor has there
-        pub full-stepOn : Held c → stepOn n h c .kind ≡ FullHeader → Arrives n v h (stepOn n h c)
+        pub full-stepOn : Held c → stepOn n h c .kind ≡ fullHeader → Arrives n v h (stepOn n h c)
         full-stepOn k =
-            stepOn-either n h c (λ a. a .kind ≡ FullHeader → Arrives n v h a) (λ e. arrives-first)
+            stepOn-either n h c (λ a. a .kind ≡ fullHeader → Arrives n v h a) (λ e. arrives-first)
             (λ live e. related-full n v h c r k (flow live) e)
 
 ---- What its link packet carries can be read back, whatever its kind
 
 -- a full header on context i of k
-pub full-fits : {h : Header} {a : Step} → Writable h a → {k i : ℕ} → k ≤ 256 → i < k
+pub full-fits : {h : Header} {a : Going} → Writable h a → {k i : ℕ} → k ≤ 256 → i < k
     → FhFits k i (a .link .generation) (a .link .sequence) h
 full-fits w few known =
     record { few = few; known = known; young = w .generation; small = w .sequence; range = w .header }
 
 -- a CU and a CR
-pub record Carried (a : Step) : Type 0 where
-  pub udp : a .kind ≡ CompressedUdp → CuFits (a .link .sequence) (checksumSent (a .context)) (a .parts)
-  pub rtp : a .kind ≡ CompressedRtp → CrFits (a .link .sequence) (checksumSent (a .context)) (a .parts)
+pub record Carried (a : Going) : Type 0 where
+  pub type : LinkType (a .kind)
+  pub udp : a .kind ≡ compressedUdp → CuFits (a .link .sequence) (checksumSent (a .context)) (a .parts)
+  pub rtp : a .kind ≡ compressedRtp → CrFits (a .link .sequence) (checksumSent (a .context)) (a .parts)
 
 not-second : (m q t d : Bool) → q ≡ false → (m && q && t && d) ≡ true → ⊥
 not-second m q t d e f =
@@ -168,21 +168,26 @@ not-second m q t d e f =
 
 module _ (n : ℕ) (h : Header) (r : HeaderInRange h) (c : CompressorContext) where
   -- the first packet is a full header
-  first-full : (k : Kind) → firstStep n h firstLink .kind ≡ k → isFull k ≡ true
+  first-full : (k : ℕ) → firstStep n h firstLink .kind ≡ k → isFull k ≡ true
   unfolding firstStep
   first-full k e = ap isFull (sym e)
 
+  first-type : LinkType (firstStep n h firstLink .kind)
+  unfolding firstStep
+  first-type = full-header
+
   carried-first : Carried (firstStep n h firstLink)
   carried-first = record {
-    udp = λ e. absurd (false≢true (first-full CompressedUdp e));
-    rtp = λ e. absurd (false≢true (first-full CompressedRtp e));
+    type = first-type;
+    udp = λ e. absurd (false≢true (first-full compressedUdp e));
+    rtp = λ e. absurd (false≢true (first-full compressedRtp e));
   }
 
   module _ (held : Held c) (sound : soundCompressor n c ≡ true) (live : c .status ≡ Live) where
     small-stepOf : stepOf n h c .link .sequence < 16
     small-stepOf = omega (arith, soundLink-bounds (stepOf n h c .link) (link-step n h c live sound) .sequence)
 
-    udp-stepOf : stepOf n h c .kind ≡ CompressedUdp
+    udp-stepOf : stepOf n h c .kind ≡ compressedUdp
         → CuFits (stepOf n h c .link .sequence) (checksumSent (stepOf n h c .context)) (stepOf n h c .parts)
     udp-stepOf k = record {
       parts = parts-step n h c r held live sound;
@@ -191,7 +196,7 @@ module _ (n : ℕ) (h : Header) (r : HeaderInRange h) (c : CompressorContext) wh
       listed = cu-listed n h c k;
     }
 
-    rtp-stepOf : stepOf n h c .kind ≡ CompressedRtp
+    rtp-stepOf : stepOf n h c .kind ≡ compressedRtp
         → CrFits (stepOf n h c .link .sequence) (checksumSent (stepOf n h c .context)) (stepOf n h c .parts)
     rtp-stepOf k =
         let p = stepOf n h c .parts in
@@ -210,4 +215,4 @@ module _ (n : ℕ) (h : Header) (r : HeaderInRange h) (c : CompressorContext) wh
   pub carried-stepOn : Held c → soundCompressor n c ≡ true → Carried (stepOn n h c)
   carried-stepOn held sound =
       stepOn-either n h c Carried carried-first
-      (λ live. record { udp = udp-stepOf held sound live; rtp = rtp-stepOf held sound live })
+      (λ live. record { type = step-type n h c; udp = udp-stepOf held sound live; rtp = rtp-stepOf held sound live })

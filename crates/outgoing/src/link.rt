@@ -2,7 +2,7 @@ ghost use mathlib.Core.Path.{_≡_};
 ghost use Prim.Native.Nat.{_≤_};
 ghost use lib.ListN.{length};
 ghost use Rattle.bytes.specs.Put.{Wrote};
-ghost use Rattle.context.specs.Compressor.{kindNumber};
+ghost use Rattle.context.specs.Compressor.{kindNumber, stepped};
 ghost use Rattle.outgoing.specs.Outgoing.{linkBytes};
 ghost use Rattle.outgoing.specs.Size.{linkSize, Writable};
 use compress::send::sends_checksum;
@@ -29,8 +29,8 @@ pub fn kind_number(k: Kind) -> u8
 
 // How many bytes go out before the rest of the packet.
 pub fn link_size(h: Header, a: Step) -> usize
-    requires { ⌜ Writable h a ⌝ }
-    ensures { λ r. ⌜ (r ≡ linkSize h a) × (r ≤ 100) ⌝ }
+    requires { ⌜ Writable h (stepped a) ⌝ }
+    ensures { λ r. ⌜ (r ≡ linkSize h (stepped a)) × (r ≤ 100) ⌝ }
 {
     let after = a.context;
     let carried = sends_checksum(after);
@@ -45,8 +45,8 @@ pub fn link_size(h: Header, a: Step) -> usize
 
 // The bytes that go out on context i before the rest of a packet of total bytes.
 pub fn put_link(out: &mut [u8], i: u8, total: u16, h: Header, a: Step) -> usize
-    requires { ⌜ Writable h a × (linkSize h a ≤ length (now out)) ⌝ }
-    ensures { λ r. ⌜ Wrote (now (out .entry)) (now (out .exit)) 0 r (linkBytes i total h a) ⌝ }
+    requires { ⌜ Writable h (stepped a) × (linkSize h (stepped a) ≤ length (now out)) ⌝ }
+    ensures { λ r. ⌜ Wrote (now (out .entry)) (now (out .exit)) 0 r (linkBytes i total h (stepped a)) ⌝ }
 {
     let after = a.context;
     let carried = sends_checksum(after);

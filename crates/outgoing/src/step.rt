@@ -1,5 +1,6 @@
 ghost use mathlib.Core.Path.{_≡_};
 ghost use Prim.Native.Nat.{_≤_};
+ghost use Rattle.context.specs.Compressor.{stepped};
 ghost use Rattle.outgoing.specs.Outgoing.{stepOn};
 use context::compressor::CompressorContext;
 use context::compressor::Usage;
@@ -10,7 +11,7 @@ use packet::header::Header;
 // The packet's step on a context: the first one, or one more.
 pub fn step_on(n: u8, h: Header, c: CompressorContext) -> Step
     requires { ⌜ n ≤ 14 ⌝ }
-    ensures { λ r. ⌜ r ≡ stepOn n h c ⌝ }
+    ensures { λ r. ⌜ stepped r ≡ stepOn n h c ⌝ }
 {
     let status = c.status;
     match status {

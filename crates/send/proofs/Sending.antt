@@ -9,12 +9,12 @@ use Rattle.packet.specs.declared.header.Header.{Header}
 use Rattle.bytes.specs.Put.{Wrote}
 use Rattle.bytes.specs.PutLaws.{wrote-then}
 use Rattle.headers.specs.Header.{headerSize}
-use Rattle.context.specs.declared.step.Step.{Step}
+use Rattle.context.specs.Compressor.{Going}
 use Rattle.compressor.specs.declared.table.Table.{Table}
 use Rattle.compressor.specs.Answer.{Result, refused}
 use Rattle.compressor.specs.AnswerLaws.{delivered-refused, delivered-written}
 use Rattle.compressor.specs.Table.{contextAt, withContext}
-use Rattle.compressor.specs.Send.{stepOn, kindNumber, linkBytes, sentBytes, sendStep}
+use Rattle.compressor.specs.Send.{stepOn, linkBytes, sentBytes, sendStep}
 use Rattle.context.proofs.Arrays.{part-rest}
 use Rattle.outgoing.specs.Size.{linkSize, Writable}
 use Rattle.outgoing.specs.SizeLaws.{length-linkBytes}
@@ -22,13 +22,13 @@ use Rattle.compressor.specs.CanSend.{sendWith}
 use Rattle.compressor.specs.SentLaws.{length-sentBytes}
 
 -- a: the step; size, start: the bytes that go out before the rest of the packet, and the place where that begins
-module _ (t : Table) (i : ℕ) (p output : List ℕ) (h : Header) (a : Step) (w : Writable h a) (size start : ℕ)
+module _ (t : Table) (i : ℕ) (p output : List ℕ) (h : Header) (a : Going) (w : Writable h a) (size start : ℕ)
     (e : size ≡ linkSize h a) (f : start ≡ headerSize h) where
   all-sent : length (sentBytes i p h a) ≡ size + (length p - start)
   all-sent = rw (e, f) (length-sentBytes i p h a w)
 
   step-refused : length output < size + (length p - start) → refused t 11 output ≡ sendStep t i p output h a
-  step-refused l = delivered-refused t (withContext t i (a .context)) (kindNumber (a .kind)) (sentBytes i p h a) output
+  step-refused l = delivered-refused t (withContext t i (a .context)) (a .kind) (sentBytes i p h a) output
       (omega (arith, all-sent, l))
 
   wrote-sent : {between output′ : List ℕ} {past n : ℕ} → Wrote output between 0 past (linkBytes i (length p) h a)
@@ -38,9 +38,9 @@ module _ (t : Table) (i : ℕ) (p output : List ℕ) (h : Header) (a : Step) (w 
   step-written : {between output′ : List ℕ} {past n : ℕ} → size + (length p - start) ≤ length output
       → Wrote output between 0 past (linkBytes i (length p) h a)
       → Wrote between output′ past n (take (length p - start) (drop start p))
-      → record { number = 0; kind = kindNumber (a .kind); length = n; output = output′; table = withContext t i (a .context) }
+      → record { number = 0; kind = a .kind; length = n; output = output′; table = withContext t i (a .context) }
       ≡ sendStep t i p output h a
-  step-written l x y = delivered-written t (withContext t i (a .context)) (kindNumber (a .kind)) (wrote-sent x y)
+  step-written l x y = delivered-written t (withContext t i (a .context)) (a .kind) (wrote-sent x y)
       (omega (arith, all-sent, l))
 
   -- where the rest of the packet goes
@@ -49,12 +49,12 @@ module _ (t : Table) (i : ℕ) (p output : List ℕ) (h : Header) (a : Step) (w 
 
   module _ (q : a ≡ stepOn (t .settings .repeats) h (contextAt t i)) where
     pub sendWith-refused : length output < size + (length p - start) → refused t 11 output ≡ sendWith t i p output h
-    sendWith-refused l = step-refused l ∙ ap (λ (x : Step). sendStep t i p output h x) q
+    sendWith-refused l = step-refused l ∙ ap (λ (x : Going). sendStep t i p output h x) q
 
-    pub sendWith-written : (k : ℕ) {between output′ : List ℕ} {past n : ℕ} → k ≡ kindNumber (a .kind)
+    pub sendWith-written : (k : ℕ) {between output′ : List ℕ} {past n : ℕ} → k ≡ a .kind
         → size + (length p - start) ≤ length output
         → Wrote output between 0 past (linkBytes i (length p) h a)
         → Wrote between output′ past n (take (length p - start) (drop start p))
         → record { number = 0; kind = k; length = n; output = output′; table = withContext t i (a .context) }
         ≡ sendWith t i p output h
-    sendWith-written k z l x y = rw z (step-written l x y) ∙ ap (λ (x : Step). sendStep t i p output h x) q
+    sendWith-written k z l x y = rw z (step-written l x y) ∙ ap (λ (x : Going). sendStep t i p output h x) q

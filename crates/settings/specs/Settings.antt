@@ -20,16 +20,25 @@ lengthAllowed n = leb 1 n && leb n 1500
 abbrev pub sound : Settings → Bool
 sound s = inRange (s .repeats) (s .contexts)
 
--- an opening with numbers in range has them as its settings
-unfoldable pub openOf : (n k : ℕ) → Opened
-openOf n k = cond (inRange n k) (Accepted (record { repeats = n; contexts = k })) Refused
+---- an opening
 
--- rule 3.1: the number of the answer
-abbrev pub numberOf : Opened → ℕ
-numberOf (Accepted s) = 0
-numberOf Refused = unsound
+-- its answer: its number, 0 where it is accepted; the settings that it gives, none where it is refused
+pub record Opening : Type 0 where
+  pub number : ℕ
+  pub repeats : ℕ
+  pub contexts : ℕ
 
--- the settings that an answer gives; a refusal gives none, and whoever asked keeps his own
-abbrev pub settingsOr : Settings → Opened → Settings
-settingsOr old (Accepted s) = s
-settingsOr old Refused = old
+abbrev pub accepted : (n k : ℕ) → Opening
+accepted n k = record { number = 0; repeats = n; contexts = k }
+
+abbrev pub refused : ℕ → Opening
+refused number = record { number = number; repeats = 0; contexts = 0 }
+
+-- rule 1.3: numbers in range are the settings, else 1
+unfoldable pub openOf : (n k : ℕ) → Opening
+openOf n k = cond (inRange n k) (accepted n k) (refused unsound)
+
+-- number and values of each answer
+abbrev pub said : Opened → Opening
+said (Accepted s) = accepted (s .repeats) (s .contexts)
+said Refused = refused unsound

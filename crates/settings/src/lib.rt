@@ -3,7 +3,7 @@
 // The limits stand beside the type. Tables are not known here: an end's own opening calls `Settings::open`.
 // Read `Settings` first.
 ghost use mathlib.Core.Path.{_≡_};
-ghost use Rattle.settings.specs.Settings.{inRange, openOf, sound};
+ghost use Rattle.settings.specs.Settings.{inRange, openOf, said, sound};
 
 // The two numbers that the ends agree on (rule 1.3).
 //
@@ -39,7 +39,7 @@ impl Settings {
 
     // Any two numbers may be asked for: they are judged before they are cut to the fields' width.
     pub fn open(n: u32, k: u32) -> Opened
-        ensures { λ r. ⌜ r ≡ openOf n k ⌝ }
+        ensures { λ r. ⌜ said r ≡ openOf n k ⌝ }
     {
         if Settings::in_range(n, k) {
             return Opened::Accepted(Settings {

@@ -1,11 +1,12 @@
 use borrow.Author.Tests.{not-true, not-false}
 use lib.ListN.{length}
-use mathlib.Core.Path.{_≡_, sym, _∙_}
+use mathlib.Core.Path.{_≡_, sym, ap, _∙_}
 use native.Mathlib.Omega.{arith}
 use Rattle.codes.specs.BytesLaws.{allBytes-elements}
 use Rattle.headers.specs.CompressibleLaws.{compressible-true}
 use Rattle.compressor.specs.CanSendLaws.{sound-most, canSend-on}
 use Rattle.compressor.specs.TableLaws.{soundOf-true}
+use Rattle.compressor.specs.Lookup.{placeIn}
 use Rattle.compressor.specs.Table.{soundOf}
 use Rattle.settings.specs.Settings.{lengthAllowed}
 use Rattle.context.proofs.Arrays.{length-mapped}
@@ -83,7 +84,7 @@ send-on-requires c κs = let a =
     (sym (c .before .before .before .before .before .before .before .before .is-compressible .ensures)
     ∙ not-false _ (c .before .before .before .before .before .before .before .if3 .left)) (c .before .before .i .given .0 .0)
     (sym (rw (c .before .before .before .before .before .before .read-header .ensures) at
-    (c .before .before .before .before .find .ensures)) ∙ c .before .before .i .given .1)))
+    (c .before .before .before .before .find .ensures)) ∙ ap placeIn (c .before .before .i .given .1))))
 
 enum-told : tie.Need-enum-told
 enum-told c = search needs
@@ -110,7 +111,7 @@ returns-4 c = let a =
     (c .before .before .before .before .before .i .given .0 .0)
     (sym (rw (c .before .before .before .before .before .before .before .before .before .read-header .ensures) at
     (c .before .before .before .before .before .before .before .find .ensures))
-    ∙ c .before .before .before .before .before .i .given .1)
+    ∙ ap placeIn (c .before .before .before .before .before .i .given .1))
 
 same-length-3 : tie.Need-same-length-3
 same-length-3 c = search needs
@@ -128,7 +129,8 @@ returns-5 c = let a =
     (sym (c .before .before .before .before .before .before .before .before .before .before .is-compressible .ensures)
     ∙ not-false _ (c .before .before .before .before .before .before .before .before .before .if3 .left))
     (sym (rw (c .before .before .before .before .before .before .before .before .read-header .ensures) at
-    (c .before .before .before .before .before .before .find .ensures)) ∙ c .before .before .before .before .enum-told .given .1)
+    (c .before .before .before .before .before .before .find .ensures))
+    ∙ ap placeIn (c .before .before .before .before .enum-told .given .1))
 
 pub send-spec : {M : Type 1} → statement M
 send-spec =

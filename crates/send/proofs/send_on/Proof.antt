@@ -1,3 +1,4 @@
+use Rattle.context.specs.Compressor.{stepped}
 use Rattle.compressor.specs.SentLaws.{length-rest}
 use native.Mathlib.Omega.{arith}
 use Rattle.send.proofs.Sending.{past-link, sendWith-refused, sendWith-written}
@@ -39,7 +40,7 @@ returns c = let s = c .before .before .before .before .before .before .before .b
     let x = c .before .before .before .before .step-on in
     let f = c .before .before .before .header-size in
     let l = c .before .link-size in
-    sendWith-refused (a .t1) (a .i) (a .p .now) (a .out .now) (a .h) (x .result) (rw (x .ensures) (s .pre .writable))
+    sendWith-refused (a .t1) (a .i) (a .p .now) (a .out .now) (a .h) (stepped (x .result)) (rw (x .ensures) (s .pre .writable))
     (l .result) (f .result) (l .ensures .0) (f .ensures) (x .ensures)
     (omega (arith, length-rest (a .p .now) (f .result), c .if1 .taken))
 
@@ -61,7 +62,7 @@ put-all-requires c κs = let s =
     let x = c .before .before .before .before .before .before .before .before .before .step-on in
     let f = c .before .before .before .before .before .before .before .before .header-size in
     let l = c .before .before .before .before .before .before .link-size in
-    let w = past-link (a .t1) (a .i) (a .p .now) (a .out .now) (a .h) (x .result) (rw (x .ensures) (s .pre .writable))
+    let w = past-link (a .t1) (a .i) (a .p .now) (a .out .now) (a .h) (stepped (x .result)) (rw (x .ensures) (s .pre .writable))
     (l .result) (f .result) (l .ensures .0) (f .ensures) (c .before .before .before .put-link .ensures) in
     omega (arith, length-rest (a .p .now) (f .result), c .before .before .before .before .before .if1 .left, w)
 
@@ -87,7 +88,7 @@ returns-2 c = let s =
     let f = c .before .before .before .before .before .before .before .before .before .before .before .before .before .header-size
     in
     let l = c .before .before .before .before .before .before .before .before .before .before .before .link-size in
-    sendWith-written (a .t1) (a .i) (a .p .now) (a .out .now) (a .h) (x .result) (rw (x .ensures) (s .pre .writable))
+    sendWith-written (a .t1) (a .i) (a .p .now) (a .out .now) (a .h) (stepped (x .result)) (rw (x .ensures) (s .pre .writable))
     (l .result) (f .result) (l .ensures .0) (f .ensures) (x .ensures) (c .kind-number .result) (c .kind-number .ensures)
     (omega (
       arith,
