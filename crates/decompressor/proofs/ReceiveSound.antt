@@ -6,7 +6,7 @@ use mathlib.Core.Path.{_≡_, refl, sym, ap, subst, _∙_}
 use mathlib.Core.Bool.{Bool, true, false, cond}
 use mathlib.Core.List.{List}
 use native.Mathlib.Omega.{arith}
-use borrow.Author.Tests.{ltb-true, lt-ltb}
+use borrow.Author.Tests.{eqb-true, eqb-false, ltb-true, lt-ltb}
 use lib.Dec.{eqb, leb, ltb}
 use lib.ListN.{length, drop, length-set}
 use lib.Seq.{getD-set-other}
@@ -103,6 +103,15 @@ module _ {t : Table} {i : ℕ} where
   way-if true f g w v = w refl
   way-if false f g w v = v
 
+  -- 0 goes on, any other number is a refusal that leaves a table
+  module _ (number : ℕ) (after : Table) (f : List ℕ → Result) (w : number ≡ 0 → Way t i f) (l : Leaves t i after) where
+    number-by : (b : Bool) → eqb number 0 ≡ b → Way t i (λ output. cond b (f output) (refused after number output))
+    number-by true e = w (eqb-true number 0 e)
+    number-by false e = refuses after number (omega (arith, eqb-false)) l (λ output. refl)
+
+    way-number : Way t i (λ output. cond (eqb number 0) (f output) (refused after number output))
+    way-number = number-by (eqb number 0) refl
+
   delivered-leaves : (b : Bool) (after : Table) (bytes output : List ℕ) → Leaves t i after
       → Leaves t i (cond b (refused t 11 output) (accepted after bytes output) .table)
   delivered-leaves true after bytes output l = same
@@ -128,7 +137,7 @@ module _ {t : Table} {i : ℕ} where
 ---- FULL_HEADER
 
 module _ (t : Table) (s : List ℕ) (a : AllBytes s) where
-  full-leaves : fhJudged (t .settings .contexts) s ≡ Accepted → Leaves t (fhOf s .context) (fullTable t (fhOf s))
+  full-leaves : fhJudged (t .settings .contexts) s ≡ 0 → Leaves t (fhOf s .context) (fullTable t (fhOf s))
   full-leaves e =
       one (filled (fhOf s .header) (record { sequence = fhOf s .link; generation = fhOf s .generation }))
       (fhOf-context s (t .settings .contexts) e)
@@ -136,15 +145,16 @@ module _ (t : Table) (s : List ℕ) (a : AllBytes s) where
       (fhOf-range s a)
       (bounds-soundLink _ (record { sequence = omega (arith, fhOf-link s); generation = omega (arith, fhOf-generation s) })))
 
-  full-way : (v : Verdict) → fhJudged (t .settings .contexts) s ≡ v
-      → Way t (fhOf s .context) (λ output. receiveFullBy v t (fhOf s) s output)
-  full-way Accepted e = gives (fullTable t (fhOf s)) (packetOf (fhOf s .header) (drop (fhOf s .start) s)) (full-leaves e)
-      (λ output. refl)
-  full-way (Refused r) e = refuses t (numberOf r) (numberOf-least r) same (λ output. refl)
+  full-way : Way t (fhOf s .context) (λ output. receiveFullBy (fhJudged (t .settings .contexts) s) t (fhOf s) s output)
+  full-way =
+      way-number (fhJudged (t .settings .contexts) s) t
+      (λ output. delivered t (fullTable t (fhOf s)) (packetOf (fhOf s .header) (drop (fhOf s .start) s)) output)
+      (λ e. gives (fullTable t (fhOf s)) (packetOf (fhOf s .header) (drop (fhOf s .start) s)) (full-leaves e) (λ output. refl))
+      same
 
   receiveFull-way : Way t (byteAt s 3) (λ output. receiveFull t s output)
   unfolding receiveFull fhOf
-  receiveFull-way = full-way (fhJudged (t .settings .contexts) s) refl
+  receiveFull-way = full-way
 
 ---- COMPRESSED_UDP and COMPRESSED_RTP
 

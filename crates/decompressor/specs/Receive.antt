@@ -52,9 +52,10 @@ receivePlain t s output = delivered t t s output
 abbrev pub fullTable : Table → FullHeader → Table
 fullTable t f = withContext t (f .context) (filled (f .header) (record { sequence = f .link; generation = f .generation }))
 
-abbrev pub receiveFullBy : Verdict → Table → FullHeader → (s output : List ℕ) → Result
-receiveFullBy Accepted t f s output = delivered t (fullTable t f) (packetOf (f .header) (drop (f .start) s)) output
-receiveFullBy (Refused r) t f s output = refused t (numberOf r) output
+-- number: how it is judged
+abbrev pub receiveFullBy : (number : ℕ) → Table → FullHeader → (s output : List ℕ) → Result
+receiveFullBy number t f s output =
+    cond (eqb number 0) (delivered t (fullTable t f) (packetOf (f .header) (drop (f .start) s)) output) (refused t number output)
 
 unfoldable pub receiveFull : Table → (s output : List ℕ) → Result
 receiveFull t s output = receiveFullBy (fhJudged (t .settings .contexts) s) t (fhOf s) s output

@@ -2,7 +2,10 @@
 -- Used wherever a call's answer is told from its number.
 use Prim.Native.Nat.{ℕ, _≤_}
 use mathlib.Core.Path.{_≡_, refl}
+use mathlib.Core.Bool.{false}
 use native.Mathlib.Omega.{arith}
+use borrow.Author.Tests.{ne-eqb}
+use lib.Dec.{eqb}
 use Rattle.packet.specs.declared.refusal.Refusal.{Refusal}
 use Rattle.packet.specs.declared.refusal.Refusal.the-variants.{Unsound, BadLength, UnknownType, Cut, Forbidden, NoSuchContext}
 use Rattle.packet.specs.declared.refusal.Refusal.the-variants.{UnusedCode, NotLive, OutOfStep, TooLong, NoRoom}
@@ -23,6 +26,10 @@ numberOf-least NotLive = omega arith
 numberOf-least OutOfStep = omega arith
 numberOf-least TooLong = omega arith
 numberOf-least NoRoom = omega arith
+
+-- so a call that goes by the number takes it for a refusal
+pub numberOf-refused : (r : Refusal) → eqb (numberOf r) 0 ≡ false
+numberOf-refused r = ne-eqb (numberOf r) 0 (λ e. omega (arith, numberOf-least r))
 
 pub refused-accepted : (r : Refusal) → Refused r ≡ Accepted → ⊥
 refused-accepted r e = let z : _≡_ {A = ℕ} 0 1 = cc in absurd (omega arith)
