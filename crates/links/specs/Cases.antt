@@ -118,7 +118,7 @@ full c g q = fhBytes c g q 40 (headerOf sample)
 abbrev pub given : Case → codes.Shown
 given (difference-case c) = codes.given c
 given (fh c g q b) = shown (lengthFields (full c g q)) (fhJudged 64 (full c g q)) (fhOf (full c g q) .start)
-given (cs r b) = shown (csBytes (r ∷ [])) (verdictNumber (requestJudged 64 b)) (length b)
+given (cs r b) = shown (csBytes (r ∷ [])) (requestJudged 64 b) (length b)
 given (cr c q h b) = readTo (crBytes c q false h) (crOf b (headOf b .place) (headOf b .flags) false .place)
 given (cu c q h b) = readTo (cuBytes c q false h) (cuOf b (headOf b .place) (headOf b .flags) false .place)
 

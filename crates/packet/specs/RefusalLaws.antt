@@ -2,9 +2,9 @@
 -- Used wherever a call's answer is told from its number.
 use Prim.Native.Nat.{ℕ, _≤_}
 use mathlib.Core.Path.{_≡_, refl}
-use mathlib.Core.Bool.{false}
+use mathlib.Core.Bool.{Bool, true, false, cond}
 use native.Mathlib.Omega.{arith}
-use borrow.Author.Tests.{ne-eqb}
+use borrow.Author.Tests.{ne-eqb, eqb-true, eqb-false}
 use lib.Dec.{eqb}
 use Rattle.packet.specs.declared.refusal.Refusal.{Refusal}
 use Rattle.packet.specs.declared.refusal.Refusal.the-variants.{Unsound, BadLength, UnknownType, Cut, Forbidden, NoSuchContext}
@@ -34,6 +34,9 @@ numberOf-refused r = ne-eqb (numberOf r) 0 (λ e. omega (arith, numberOf-least r
 pub refused-accepted : (r : Refusal) → Refused r ≡ Accepted → ⊥
 refused-accepted r e = let z : _≡_ {A = ℕ} 0 1 = cc in absurd (omega arith)
 
-pub firstRefusal-accepted : (a b : Verdict) → firstRefusal a b ≡ Accepted → (a ≡ Accepted) × (b ≡ Accepted)
-firstRefusal-accepted Accepted b e = (refl, e)
-firstRefusal-accepted (Refused r) b e = (e, absurd (refused-accepted r e))
+first-by : (t : Bool) (a b : ℕ) → eqb a 0 ≡ t → cond t b a ≡ 0 → (a ≡ 0) × (b ≡ 0)
+first-by true a b t e = (eqb-true a 0 t, e)
+first-by false a b t e = (e, absurd (eqb-false a 0 t e))
+
+pub firstRefusal-accepted : (a b : ℕ) → firstRefusal a b ≡ 0 → (a ≡ 0) × (b ≡ 0)
+firstRefusal-accepted a b e = first-by (eqb a 0) a b refl e
