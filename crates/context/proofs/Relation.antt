@@ -8,14 +8,12 @@ use Rattle.packet.specs.declared.header.Header.{Header}
 use Rattle.packet.specs.declared.parts.Parts.{Parts}
 use Rattle.context.specs.Field.{steps}
 use Rattle.context.specs.Compressor.{checksumSent}
-use Rattle.context.specs.Decompressor.{filled, applied, checksumRead, rebuilt}
+use Rattle.context.specs.Decompressor.{filled, Effect, acceptedAs, applied, checksumRead, rebuilt}
 use Rattle.context.specs.declared.kept.Link.{Link}
 use Rattle.context.specs.declared.compressor.Usage.the-variants as usage
 use Rattle.context.specs.declared.compressor.CompressorContext.{CompressorContext}
 use Rattle.context.specs.declared.decompressor.Status.the-variants.{Live}
 use Rattle.context.specs.declared.decompressor.DecompressorContext.{DecompressorContext}
-use Rattle.packet.specs.declared.refusal.Verdict.the-variants.{Accepted}
-use Rattle.context.specs.declared.decompressor.Applied.{Applied}
 use Rattle.context.specs.declared.step.Kind.{Kind}
 use Rattle.context.specs.declared.step.Kind.the-variants.{FullHeader, CompressedUdp, CompressedRtp}
 use Rattle.context.specs.declared.step.Step.{Step}
@@ -121,12 +119,12 @@ pub record Related (n j : ℕ) (v : DecompressorContext) (s : CompressorContext)
 ---- A packet that arrives
 
 -- what the decompressor makes of it; h: the header that a full header carries, which is never a guess: a gap of 1 stands for it
-abbrev pub received : Kind → (n : ℕ) → Header → Link → Parts → DecompressorContext → Applied
-received FullHeader n h l p v = record { verdict = Accepted; gap = 1; context = filled h l }
+abbrev pub received : Kind → (n : ℕ) → Header → Link → Parts → DecompressorContext → Effect
+received FullHeader n h l p v = acceptedAs 1 (filled h l)
 received CompressedUdp n h l p v = applied n (l .sequence) v p
 received CompressedRtp n h l p v = applied n (l .sequence) v p
 
-abbrev pub receivedOf : (n : ℕ) → Header → Step → DecompressorContext → Applied
+abbrev pub receivedOf : (n : ℕ) → Header → Step → DecompressorContext → Effect
 receivedOf n h a v = received (a .kind) n h (a .link) (a .parts) v
 
 abbrev pub isFull : Kind → Bool
@@ -139,7 +137,7 @@ isFull CompressedRtp = false
 pub record Arrives (n : ℕ) (v : DecompressorContext) (h : Header) (a : Step) : Type 0 where
   pub gap : ℕ
   pub after : DecompressorContext
-  pub accepts : receivedOf n h a v ≡ record { verdict = Accepted; gap = gap; context = after }
+  pub accepts : receivedOf n h a v ≡ acceptedAs gap after
   pub exact : rebuilt after (a .parts .checksum) ≡ h
   pub live : isFull (a .kind) ≡ false → v .status ≡ Live
   pub carries : isFull (a .kind) ≡ false → checksumRead v ≡ checksumSent (a .context)

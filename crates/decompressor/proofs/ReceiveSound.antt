@@ -33,21 +33,20 @@ use Rattle.context.proofs.SoundFacts.{bounds-soundLink}
 use Rattle.packet.specs.Refusal.{numberOf, isAccepted}
 use Rattle.packet.specs.RefusalLaws.{numberOf-least}
 use Rattle.settings.specs.Settings.{lengthAllowed}
-use Rattle.context.specs.Decompressor.{filled, broke, applied, appliedWhole, checksumRead, rebuilt}
+use Rattle.context.specs.Decompressor.{filled, broke, Effect, applied, appliedWhole, checksumRead, rebuilt}
 use Rattle.context.proofs.DecompressorSound.{sound-filled, sound-broke, sound-applied, sound-appliedWhole}
 use Rattle.context.specs.declared.decompressor.Status.{Status}
 use Rattle.context.specs.declared.decompressor.Status.the-variants.{Empty, Live, Broken}
 use Rattle.context.specs.declared.decompressor.DecompressorContext.{DecompressorContext}
 use Rattle.packet.specs.declared.refusal.Verdict.{Verdict}
 use Rattle.packet.specs.declared.refusal.Verdict.the-variants.{Accepted, Refused}
-use Rattle.context.specs.declared.decompressor.Applied.{Applied}
 use Rattle.decompressor.specs.declared.old.OldForm.{OldForm}
 use Rattle.decompressor.specs.declared.old.OldForm.the-variants.{Taken}
 use Rattle.decompressor.specs.declared.table.Table.{Table}
 use Rattle.decompressor.specs.Answer.{Result, accepted, refused, delivered}
 use Rattle.decompressor.specs.Table.{noContext, soundOf, contextAt, withContext, Sound}
 use Rattle.decompressor.specs.TableLaws.{soundOf-true, sound-contextAt, sound-withContext}
-use Rattle.decompressor.specs.Receive.{packetOf, receivePlain, fullTable, receiveFullBy, receiveFull, rebuildTo, settleBy}
+use Rattle.decompressor.specs.Receive.{packetOf, receivePlain, fullTable, receiveFullBy, receiveFull, rebuildTo}
 use Rattle.decompressor.specs.Receive.{settle, settleRead}
 use Rattle.decompressor.specs.Receive.{receiveParts, receiveWhole, receiveOld, receiveUdp, receiveRtp, receiveOn}
 use Rattle.decompressor.specs.Receive.{receiveCompressed, receiveKind}
@@ -168,17 +167,17 @@ module _ (t : Table) (i : ℕ) (sound : Sound t) (among : i < t .settings .conte
       (λ long. refuses t 10 (omega arith) same (λ output. refl))
       (gives (withContext t i c) (packetOf (rebuilt c sent) rest) (one c among e) (λ output. refl))
 
-  settleBy-way : (o : Verdict) (c : DecompressorContext) (sent : ℕ) (rest : List ℕ) → soundDecompressor c ≡ true
-      → Way t i (λ output. settleBy o t i c sent rest output)
-  settleBy-way Accepted c sent rest e = rebuildTo-way c sent rest e
-  settleBy-way (Refused r) c sent rest e = refuses (withContext t i c) (numberOf r) (numberOf-least r) (one c among e)
-      (λ output. refl)
+  settle-way : (x : Effect) (sent : ℕ) (rest : List ℕ) → soundDecompressor (x .context) ≡ true
+      → Way t i (λ output. settle x t i sent rest output)
+  settle-way x sent rest e =
+      way-number (x .number) (withContext t i (x .context)) (λ output. rebuildTo t i (x .context) sent rest output)
+      (λ z. rebuildTo-way (x .context) sent rest e) (one (x .context) among e)
 
   -- o: what was found of the reading
-  settleRead-way : (o : Verdict) (at : ℕ) (b : Applied) (sent : ℕ) (s : List ℕ) → soundDecompressor (b .context) ≡ true
-      → Way t i (λ output. settleRead (stopped at o) b t i sent s output)
-  settleRead-way Accepted at b sent s e = settleBy-way (b .verdict) (b .context) sent (drop at s) e
-  settleRead-way (Refused r) at b sent s e = refuses t (numberOf r) (numberOf-least r) same (λ output. refl)
+  settleRead-way : (o : Verdict) (at : ℕ) (x : Effect) (sent : ℕ) (s : List ℕ) → soundDecompressor (x .context) ≡ true
+      → Way t i (λ output. settleRead (stopped at o) x t i sent s output)
+  settleRead-way Accepted at x sent s e = settle-way x sent (drop at s) e
+  settleRead-way (Refused r) at x sent s e = refuses t (numberOf r) (numberOf-least r) same (λ output. refl)
 
   -- on a live context
   module _ (live : contextAt t i .status ≡ Live) where

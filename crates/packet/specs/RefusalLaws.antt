@@ -9,8 +9,6 @@ use lib.Dec.{eqb}
 use Rattle.packet.specs.declared.refusal.Refusal.{Refusal}
 use Rattle.packet.specs.declared.refusal.Refusal.the-variants.{Unsound, BadLength, UnknownType, Cut, Forbidden, NoSuchContext}
 use Rattle.packet.specs.declared.refusal.Refusal.the-variants.{UnusedCode, NotLive, OutOfStep, TooLong, NoRoom}
-use Rattle.packet.specs.declared.refusal.Verdict.{Verdict}
-use Rattle.packet.specs.declared.refusal.Verdict.the-variants.{Accepted, Refused}
 use Rattle.packet.specs.Refusal.{numberOf, firstRefusal}
 
 -- no refusal has the number of an acceptance
@@ -30,9 +28,6 @@ numberOf-least NoRoom = omega arith
 -- so a call that goes by the number takes it for a refusal
 pub numberOf-refused : (r : Refusal) → eqb (numberOf r) 0 ≡ false
 numberOf-refused r = ne-eqb (numberOf r) 0 (λ e. omega (arith, numberOf-least r))
-
-pub refused-accepted : (r : Refusal) → Refused r ≡ Accepted → ⊥
-refused-accepted r e = let z : _≡_ {A = ℕ} 0 1 = cc in absurd (omega arith)
 
 first-by : (t : Bool) (a b : ℕ) → eqb a 0 ≡ t → cond t b a ≡ 0 → (a ≡ 0) × (b ≡ 0)
 first-by true a b t e = (eqb-true a 0 t, e)
