@@ -3,11 +3,9 @@
 use Prim.Native.Nat.{ℕ, zero, suc}
 use mathlib.Core.Bool.{Bool, cond}
 use mathlib.Core.List.{List, []}
+use lib.Dec.{eqb}
 use lib.ListN.{getD, set}
 use Rattle.codes.specs.Numbers.{unsound}
-use Rattle.packet.specs.declared.refusal.Verdict.{Verdict}
-use Rattle.packet.specs.declared.refusal.Verdict.the-variants.{Accepted, Refused}
-use Rattle.packet.specs.Refusal.{numberOf}
 use Rattle.links.specs.Cs.{requestJudged, recordCount, recordContext, recordAsks}
 use Rattle.context.specs.Compressor.{requested}
 use Rattle.context.specs.declared.compressor.CompressorContext.{CompressorContext}
@@ -28,9 +26,9 @@ askedAll n s cs (suc i) = asked n (recordAsks s i) (recordContext s i) (askedAll
 abbrev pub requestTable : Table → List ℕ → Table
 requestTable t s = record { settings = t .settings; contexts = askedAll (t .settings .repeats) s (t .contexts) (recordCount s) }
 
-abbrev pub requestBy : Verdict → Table → List ℕ → Result
-requestBy Accepted t s = accepted (requestTable t s) 0 [] []
-requestBy (Refused r) t s = refused t (numberOf r) []
+-- number: how it is judged
+abbrev pub requestBy : (number : ℕ) → Table → List ℕ → Result
+requestBy number t s = cond (eqb number 0) (accepted (requestTable t s) 0 [] []) (refused t number [])
 
 -- rule 9.2: 1, then by the bytes
 unfoldable pub requestOf : Table → List ℕ → Result

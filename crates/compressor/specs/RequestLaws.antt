@@ -6,11 +6,13 @@ use mathlib.Core.Bool.{Bool, true, false, cond}
 use mathlib.Core.List.{List, [], _∷_}
 use native.Mathlib.Numerals.{add-one}
 use native.Mathlib.Omega.{arith}
+use lib.Dec.{eqb}
 use lib.ListN.{length, getD, set, drop, length-set, length-drop}
 use lib.Seq.{set-getD, getD-drop}
 use Rattle.links.specs.Cs.{recordCount, recordContext, recordAsks, requestJudged}
-use Rattle.packet.specs.declared.refusal.Verdict.{Verdict}
-use Rattle.packet.specs.declared.refusal.Verdict.the-variants.{Accepted, Refused}
+use Rattle.packet.specs.declared.refusal.Refusal.{Refusal}
+use Rattle.packet.specs.Refusal.{numberOf}
+use Rattle.packet.specs.RefusalLaws.{numberOf-refused}
 use Rattle.context.specs.All.{all}
 use Rattle.context.proofs.AllLaws.{all-at}
 use Rattle.context.specs.Compressor.{skips, startedUnlessDue, requestedBy, requested}
@@ -23,7 +25,7 @@ use Rattle.context.proofs.CompressorSound.{sound-requested, requested-kept}
 use Rattle.context.proofs.Begun.{started-held}
 use Rattle.context.proofs.Tests.{cond-both}
 use Rattle.compressor.specs.declared.table.Table.{Table}
-use Rattle.compressor.specs.Answer.{refused}
+use Rattle.compressor.specs.Answer.{accepted, refused}
 use Rattle.compressor.specs.Table.{noContext, contextAt, isEmpty, emptyBy, soundOf}
 use Rattle.compressor.specs.Table.{Sound}
 use Rattle.compressor.specs.TableLaws.{set-keeps}
@@ -71,10 +73,15 @@ module _ (t : Table) (s : List ℕ) where
   unfolding requestOf
   requestOf-unsound e = rw e
 
-  pub requestOf-judged : (j : Verdict) → soundOf t ≡ true → requestJudged (t .settings .contexts) s ≡ j
-      → requestBy j t s ≡ requestOf t s
-  unfolding requestOf
-  requestOf-judged j e q = rw (e, q)
+  module _ (e : soundOf t ≡ true) where
+    pub requestOf-good : requestJudged (t .settings .contexts) s ≡ 0 → accepted (requestTable t s) 0 [] [] ≡ requestOf t s
+    unfolding requestOf
+    requestOf-good q = rw (e, q)
+
+    pub requestOf-refused : (r : Refusal) → requestJudged (t .settings .contexts) s ≡ numberOf r
+        → refused t (numberOf r) [] ≡ requestOf t s
+    unfolding requestOf
+    requestOf-refused r q = rw (e, q, numberOf-refused r)
 
 ---- what a request leaves of each context
 
@@ -118,9 +125,13 @@ asks-table t s = record {
   keeps = λ P step i before. askedAll-keeps (t .settings .repeats) P step s (t .contexts) (recordCount s) i before;
 }
 
-asks-by : (t : Table) (s : List ℕ) (j : Verdict) → Asks t (requestBy j t s .table)
-asks-by t s Accepted = asks-table t s
-asks-by t s (Refused r) = asks-nothing t
+asks-if : (t : Table) (s : List ℕ) (number : ℕ) (b : Bool)
+    → Asks t (cond b (accepted (requestTable t s) 0 [] []) (refused t number []) .table)
+asks-if t s number true = asks-table t s
+asks-if t s number false = asks-nothing t
+
+asks-by : (t : Table) (s : List ℕ) (number : ℕ) → Asks t (requestBy number t s .table)
+asks-by t s number = asks-if t s number (eqb number 0)
 
 asks-sound : (t : Table) (s : List ℕ) (b : Bool) → soundOf t ≡ b → Asks t (requestOf t s .table)
 unfolding requestOf

@@ -5,6 +5,7 @@ use Prim.Native.Nat.{ℕ, _≤_}
 use mathlib.Core.Path.{_≡_, refl, sym, ap, _∙_}
 use mathlib.Core.Bool.{Bool, true, false, cond, not, _&&_, false≢true, and-eq-true-iff}
 use native.Mathlib.Omega.{arith}
+use lib.Dec.{eqb}
 use Rattle.codes.specs.Difference.{hasCode}
 use Rattle.packet.specs.Ranges.{HeaderInRange, HeaderSound, PartsSound}
 use Rattle.packet.specs.RangesLaws.{range-sound}
@@ -12,8 +13,8 @@ use Rattle.packet.specs.declared.csrc.Csrc.{Csrc}
 use Rattle.packet.specs.declared.header.Header.{Header}
 use Rattle.packet.specs.declared.header.RtpHeader.{RtpHeader}
 use Rattle.packet.specs.declared.parts.Parts.{Parts}
-use Rattle.context.specs.Decompressor.{filled, gapVerdict, gapOf, ipAfter, rtpAfter, deltasHeld, advanced, advancedWhole}
-use Rattle.context.specs.Decompressor.{broke, settled, applied, appliedWhole}
+use Rattle.context.specs.Decompressor.{filled, gapJudged, gapOf, ipAfter, rtpAfter, deltasHeld, advanced, advancedWhole}
+use Rattle.context.specs.Decompressor.{broke, Effect, acceptedAs, refusedAs, settled, applied, appliedWhole}
 use Rattle.context.specs.Sound.{soundList, soundLink, filledSound, unfilledSound, soundDecompressorBy, soundDecompressor}
 use Rattle.context.specs.Sound.{emptyDecompressor, zeroList}
 use Rattle.context.specs.declared.kept.Link.{Link}
@@ -23,8 +24,6 @@ use Rattle.context.specs.declared.decompressor.DecompressorContext.{Deco
 use Rattle.context.proofs.Tests.{cond-both}
 use Rattle.context.proofs.SoundFacts.{hasCode-zero, soundList-made, soundLink-bounds}
 use Rattle.context.proofs.SoundFacts.{FilledBounds, filledSound-bounds, bounds-filledSound}
-use Rattle.packet.specs.declared.refusal.Verdict.{Verdict}
-use Rattle.packet.specs.declared.refusal.Verdict.the-variants.{Accepted, Refused}
 
 ---- A live context is sound where it is filled and its fields are in range
 
@@ -113,22 +112,23 @@ sound-broke c s = broke-by (c .status) c s
 
 ---- applied, appliedWhole
 
-sound-settled : (o : Verdict) (g : ℕ) (c next : DecompressorContext) → soundDecompressor next ≡ true → soundDecompressor c ≡ true
-    → soundDecompressor (settled o g c next .context) ≡ true
+sound-settled : (number g : ℕ) (c next : DecompressorContext) → soundDecompressor next ≡ true → soundDecompressor c ≡ true
+    → soundDecompressor (settled number g c next .context) ≡ true
 unfolding settled
-sound-settled Accepted g c next f s = f
-sound-settled (Refused r) g c next f s = sound-broke c s
+sound-settled number g c next f s =
+    cond-both (λ (e : Effect). soundDecompressor (e .context) ≡ true) (eqb number 0) (acceptedAs g next) (refusedAs number g c) f
+    (sound-broke c s)
 
 module _ (n q : ℕ) (c : DecompressorContext) (p : Parts) (small : q ≤ 15) (a : PartsSound p) (live : c .status ≡ Live)
     (s : soundDecompressor c ≡ true) where
   pub sound-applied : soundDecompressor (applied n q c p .context) ≡ true
   unfolding applied
   sound-applied =
-      sound-settled (gapVerdict n (gapOf q c)) (gapOf q c) c (advanced (gapOf q c) q c p)
+      sound-settled (gapJudged n (gapOf q c)) (gapOf q c) c (advanced (gapOf q c) q c p)
       (sound-advanced (gapOf q c) q c p small a live s) s
 
   pub sound-appliedWhole : (w : RtpHeader) → HeaderSound w → soundDecompressor (appliedWhole n q c p w .context) ≡ true
   unfolding appliedWhole
   sound-appliedWhole w t =
-      sound-settled (gapVerdict n (gapOf q c)) (gapOf q c) c (advancedWhole (gapOf q c) q c p w)
+      sound-settled (gapJudged n (gapOf q c)) (gapOf q c) c (advancedWhole (gapOf q c) q c p w)
       (sound-whole (gapOf q c) q c p w small a t live s) s

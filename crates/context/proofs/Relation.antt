@@ -9,14 +9,12 @@ use Rattle.packet.specs.declared.header.Header.{Header}
 use Rattle.packet.specs.declared.parts.Parts.{Parts}
 use Rattle.context.specs.Field.{steps}
 use Rattle.context.specs.Compressor.{fullHeader, checksumSent, Going}
-use Rattle.context.specs.Decompressor.{filled, applied, checksumRead, rebuilt}
+use Rattle.context.specs.Decompressor.{filled, Effect, acceptedAs, applied, checksumRead, rebuilt}
 use Rattle.context.specs.declared.kept.Link.{Link}
 use Rattle.context.specs.declared.compressor.Usage.the-variants as usage
 use Rattle.context.specs.declared.compressor.CompressorContext.{CompressorContext}
 use Rattle.context.specs.declared.decompressor.Status.the-variants.{Live}
 use Rattle.context.specs.declared.decompressor.DecompressorContext.{DecompressorContext}
-use Rattle.packet.specs.declared.refusal.Verdict.the-variants.{Accepted}
-use Rattle.context.specs.declared.decompressor.Applied.{Applied}
 
 ---- One changing field
 
@@ -122,10 +120,10 @@ abbrev pub isFull : (kind : ℕ) → Bool
 isFull k = eqb k fullHeader
 
 -- what the decompressor makes of it; h: the header that a full header carries, which is never a guess: a gap of 1 stands for it
-abbrev pub received : (kind n : ℕ) → Header → Link → Parts → DecompressorContext → Applied
-received k n h l p v = cond (isFull k) (record { verdict = Accepted; gap = 1; context = filled h l }) (applied n (l .sequence) v p)
+abbrev pub received : (kind n : ℕ) → Header → Link → Parts → DecompressorContext → Effect
+received k n h l p v = cond (isFull k) (acceptedAs 1 (filled h l)) (applied n (l .sequence) v p)
 
-abbrev pub receivedOf : (n : ℕ) → Header → Going → DecompressorContext → Applied
+abbrev pub receivedOf : (n : ℕ) → Header → Going → DecompressorContext → Effect
 receivedOf n h a v = received (a .kind) n h (a .link) (a .parts) v
 
 -- it is accepted, its header is rebuilt, and nothing is lost any more. A CU or CR finds a live context (rule 3.3 has 8 before
@@ -133,7 +131,7 @@ receivedOf n h a v = received (a .kind) n h (a .link) (a .parts) v
 pub record Arrives (n : ℕ) (v : DecompressorContext) (h : Header) (a : Going) : Type 0 where
   pub gap : ℕ
   pub after : DecompressorContext
-  pub accepts : receivedOf n h a v ≡ record { verdict = Accepted; gap = gap; context = after }
+  pub accepts : receivedOf n h a v ≡ acceptedAs gap after
   pub exact : rebuilt after (a .parts .checksum) ≡ h
   pub live : isFull (a .kind) ≡ false → v .status ≡ Live
   pub carries : isFull (a .kind) ≡ false → checksumRead v ≡ checksumSent (a .context)

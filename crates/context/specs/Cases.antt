@@ -13,8 +13,7 @@ use Rattle.context.specs.Field.{nextSequence, nextGeneration, offPattern
 use Rattle.context.specs.Compressor.{first, started, sameConstants, begun, startedUnlessDue, requested, reset, adoptsId}
 use Rattle.context.specs.Compressor.{adoptsTimestamp, judged, dueNow, anyDue, kindOf, listIf, partsOf, dueAfter, deltasAfter}
 use Rattle.context.specs.Compressor.{fullHeader, compressedRtp, moved, sentWith, stepOf}
-use Rattle.packet.specs.Refusal.{verdictNumber}
-use Rattle.context.specs.Decompressor.{filled, gapVerdict, ipAfter, rtpAfter, deltasHeld, advanced, broke, settled, applied}
+use Rattle.context.specs.Decompressor.{filled, gapJudged, ipAfter, rtpAfter, deltasHeld, advanced, broke, settled, applied}
 use Rattle.context.specs.Decompressor.{rebuilt}
 use Rattle.context.specs.Sound.{emptyCompressor}
 use Rattle.context.specs.declared.compressor.CompressorContext.{CompressorContext}
@@ -102,15 +101,15 @@ pub record Compressing : Type 0 where
 
 pub record Rebuilding : Type 0 where
   -- rule 11.2: N 14, fourteen lost, gap 15, accepted, with fifteen steps; gap 0 is refused with 9
-  pub far : verdictNumber (applied 14 15 heard nothing .verdict) ≡ 0
+  pub far : applied 14 15 heard nothing .number ≡ 0
   pub far-id : applied 14 15 heard nothing .context .ip .id ≡ 16
   pub far-sequence : applied 14 15 heard nothing .context .rtp .sequence ≡ 22
-  pub again : verdictNumber (applied 14 0 heard nothing .verdict) ≡ 9
+  pub again : applied 14 0 heard nothing .number ≡ 9
   -- rules 7.4, 12.1: gap 3 and a difference of 5: two steps of 1, and one of 5, which is kept
   pub three-steps : applied 2 3 heard (bringing true 5) .context .ip .id ≡ 8
   pub three-kept : applied 2 3 heard (bringing true 5) .context .deltas .id ≡ 5
   -- rule 3.1: N 1 and gap 3
-  pub too-far : verdictNumber (applied 1 3 heard nothing .verdict) ≡ 9
+  pub too-far : applied 1 3 heard nothing .number ≡ 9
   -- rules 7.6, 7.8: the marker is taken; the checksum is 0 where none is carried
   pub marked : rebuilt (applied 2 1 heard nothing .context) 77 ≡ record {
     flow = voice 2 8 10 .flow;
@@ -144,7 +143,7 @@ compressing = record {
 }
 
 pub rebuilding : Rebuilding
-unfolding sum gap movedOn filled gapVerdict ipAfter rtpAfter deltasHeld advanced broke settled applied rebuilt
+unfolding sum gap movedOn filled gapJudged ipAfter rtpAfter deltasHeld advanced broke settled applied rebuilt
 rebuilding = record {
   far = refl;
   far-id = refl;

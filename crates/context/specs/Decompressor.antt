@@ -4,6 +4,7 @@
 use Prim.Native.Nat.{ℕ, _+_}
 use mathlib.Core.Bool.{Bool, true, cond, not, _||_}
 use lib.Dec.{eqb, ltb}
+use Rattle.codes.specs.Numbers.{outOfStep}
 use Rattle.packet.specs.declared.header.Header.{Header}
 use Rattle.packet.specs.declared.header.RtpHeader.{RtpHeader}
 use Rattle.packet.specs.declared.header.Ip.{Ip}
@@ -12,12 +13,9 @@ use Rattle.packet.specs.declared.parts.Parts.{Parts}
 use Rattle.context.specs.Field.{gap, movedOn}
 use Rattle.context.specs.declared.kept.Deltas.{Deltas}
 use Rattle.context.specs.declared.kept.Link.{Link}
-use Rattle.packet.specs.declared.refusal.Refusal.{Refusal}
-use Rattle.packet.specs.declared.refusal.Refusal.the-variants.{OutOfStep}
+use Rattle.packet.specs.Refusal.{verdictNumber}
 use Rattle.context.specs.declared.decompressor.Status.the-variants.{Live, Broken}
 use Rattle.context.specs.declared.decompressor.DecompressorContext.{DecompressorContext}
-use Rattle.packet.specs.declared.refusal.Verdict.{Verdict}
-use Rattle.packet.specs.declared.refusal.Verdict.the-variants.{Accepted, Refused}
 use Rattle.context.specs.declared.decompressor.Applied.{Applied}
 
 ---- A full header
@@ -43,11 +41,12 @@ filled h l = record {
 abbrev pub furthest : ℕ → ℕ
 furthest n = n + 1
 
-abbrev pub outOfStep : (n g : ℕ) → Bool
-outOfStep n g = eqb g 0 || ltb (furthest n) g
+abbrev pub isOutOfStep : (n g : ℕ) → Bool
+isOutOfStep n g = eqb g 0 || ltb (furthest n) g
 
-unfoldable pub gapVerdict : (n g : ℕ) → Verdict
-gapVerdict n g = cond (outOfStep n g) (Refused OutOfStep) Accepted
+-- rule 3.1: 9, else 0
+unfoldable pub gapJudged : (n g : ℕ) → ℕ
+gapJudged n g = cond (isOutOfStep n g) outOfStep 0
 
 ---- The fields after a CU or CR
 
@@ -131,24 +130,36 @@ broke c = record {
   link = c .link;
 }
 
--- rule 3.1: a refusal breaks the context; g: the gap
-abbrev pub refusedAs : Refusal → (g : ℕ) → DecompressorContext → Applied
-refusedAs r g c = record { verdict = Refused r; gap = g; context = broke c }
+-- what it does on a live context: its number, 0 where it is accepted; by how many steps it is on; the context after it
+pub record Effect : Type 0 where
+  pub number : ℕ
+  pub gap : ℕ
+  pub context : DecompressorContext
 
--- next: the context where the gap is in step
-unfoldable pub settled : Verdict → (g : ℕ) → (c next : DecompressorContext) → Applied
-settled Accepted g c next = record { verdict = Accepted; gap = g; context = next }
-settled (Refused r) g c next = refusedAs r g c
+abbrev pub acceptedAs : (g : ℕ) → (next : DecompressorContext) → Effect
+acceptedAs g next = record { number = 0; gap = g; context = next }
+
+-- rule 3.1: a refusal breaks the context
+abbrev pub refusedAs : (number g : ℕ) → DecompressorContext → Effect
+refusedAs number g c = record { number = number; gap = g; context = broke c }
+
+-- number: how the gap is judged; next: the context where it is in step
+unfoldable pub settled : (number g : ℕ) → (c next : DecompressorContext) → Effect
+settled number g c next = cond (eqb number 0) (acceptedAs g next) (refusedAs number g c)
 
 abbrev pub gapOf : (q : ℕ) → DecompressorContext → ℕ
 gapOf q c = gap (c .link .sequence) q
 
 -- on a live context; no other has its gap looked at (rule 7.2)
-unfoldable pub applied : (n q : ℕ) → DecompressorContext → Parts → Applied
-applied n q c p = settled (gapVerdict n (gapOf q c)) (gapOf q c) c (advanced (gapOf q c) q c p)
+unfoldable pub applied : (n q : ℕ) → DecompressorContext → Parts → Effect
+applied n q c p = settled (gapJudged n (gapOf q c)) (gapOf q c) c (advanced (gapOf q c) q c p)
 
-unfoldable pub appliedWhole : (n q : ℕ) → DecompressorContext → Parts → RtpHeader → Applied
-appliedWhole n q c p w = settled (gapVerdict n (gapOf q c)) (gapOf q c) c (advancedWhole (gapOf q c) q c p w)
+unfoldable pub appliedWhole : (n q : ℕ) → DecompressorContext → Parts → RtpHeader → Effect
+appliedWhole n q c p w = settled (gapJudged n (gapOf q c)) (gapOf q c) c (advancedWhole (gapOf q c) q c p w)
+
+-- number and values of what the code answers
+abbrev pub effectOf : Applied → Effect
+effectOf a = record { number = verdictNumber (a .verdict); gap = a .gap; context = a .context }
 
 ---- The rebuilt packet
 

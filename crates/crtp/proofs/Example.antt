@@ -23,7 +23,7 @@ use Rattle.compressor.specs.Send.{stepOn, linkBytes, sendAt, sendOf}
 use Rattle.context.specs.Compressor.{first, started, sameConstants, begun, startedUnlessDue, requested, reset, adoptsId}
 use Rattle.context.specs.Compressor.{adoptsTimestamp, judged, dueNow, anyDue, kindOf, listIf, partsOf, dueAfter, deltasAfter, moved}
 use Rattle.context.specs.Compressor.{sentWith, stepOf, firstStep}
-use Rattle.context.specs.Decompressor.{filled, gapVerdict, ipAfter, rtpAfter, deltasHeld, advanced, broke}
+use Rattle.context.specs.Decompressor.{filled, gapJudged, ipAfter, rtpAfter, deltasHeld, advanced, broke}
 use Rattle.context.specs.Decompressor.{settled, applied, rebuilt}
 use Rattle.context.specs.Field.{nextSequence, nextGeneration, offPattern, counted, isDue, gap, movedOn}
 use Rattle.context.specs.Sound.{soundList, soundLink, soundDue, zeroList, usedSound, unusedSound, soundCompressorBy}
@@ -98,7 +98,7 @@ computed : Computed
 unfolding compressing.soundOf decompressing.soundOf plus codeOf difference sum hasCode readByte readWord readLong readBy placeOf
     requestOf stepOn linkBytes sendAt sendOf first started sameConstants begun startedUnlessDue requested reset adoptsId
     adoptsTimestamp judged dueNow anyDue kindOf listIf partsOf dueAfter deltasAfter moved sentWith stepOf firstStep filled
-    gapVerdict ipAfter rtpAfter deltasHeld advanced broke settled applied rebuilt nextSequence
+    gapJudged ipAfter rtpAfter deltasHeld advanced broke settled applied rebuilt nextSequence
     nextGeneration offPattern counted isDue gap movedOn soundList soundLink soundDue zeroList usedSound unusedSound
     soundCompressorBy soundCompressor filledSound unfilledSound soundDecompressorBy soundDecompressor emptyCompressor
     emptyDecompressor receiveFull receiveOld receiveCompressed receiveKind receiveBy next readPayload nextByte nextWord nextLong

@@ -1,6 +1,7 @@
 ghost use mathlib.Core.Path.{_≡_};
 ghost use Prim.Native.Nat.{_≤_};
-ghost use Rattle.context.specs.Decompressor.{broke, refusedAs, applied, appliedWhole};
+ghost use Rattle.context.specs.Decompressor.{broke, effectOf, refusedAs, applied, appliedWhole};
+ghost use Rattle.packet.specs.Refusal.{numberOf};
 use crate::advance;
 use crate::gap;
 use context::decompressor::Applied;
@@ -35,7 +36,7 @@ pub fn break_context(c: DecompressorContext) -> DecompressorContext
 }
 
 fn refuse(why: Refusal, g: u8, c: DecompressorContext) -> Applied
-    ensures { λ r. ⌜ r ≡ refusedAs why g c ⌝ }
+    ensures { λ r. ⌜ effectOf r ≡ refusedAs (numberOf why) g c ⌝ }
 {
     let broken = break_context(c);
     Applied {
@@ -48,7 +49,7 @@ fn refuse(why: Refusal, g: u8, c: DecompressorContext) -> Applied
 // A CR, or a CU with F, with the link sequence q, on a live context.
 pub fn apply(n: u8, q: u8, c: DecompressorContext, p: Parts) -> Applied
     requires { ⌜ n ≤ 14 ⌝ }
-    ensures { λ r. ⌜ r ≡ applied n q c p ⌝ }
+    ensures { λ r. ⌜ effectOf r ≡ applied n q c p ⌝ }
 {
     let g = gap::gap_of(c.link.sequence, q);
     match gap::judge_gap(n, g) {
@@ -67,7 +68,7 @@ pub fn apply(n: u8, q: u8, c: DecompressorContext, p: Parts) -> Applied
 // A CU without F, with the link sequence q and the RTP header w, on a live context.
 pub fn apply_whole(n: u8, q: u8, c: DecompressorContext, p: Parts, w: RtpHeader) -> Applied
     requires { ⌜ n ≤ 14 ⌝ }
-    ensures { λ r. ⌜ r ≡ appliedWhole n q c p w ⌝ }
+    ensures { λ r. ⌜ effectOf r ≡ appliedWhole n q c p w ⌝ }
 {
     let g = gap::gap_of(c.link.sequence, q);
     match gap::judge_gap(n, g) {

@@ -6,7 +6,7 @@ use mathlib.Core.Path.{_≡_, refl, sym, ap, subst, _∙_}
 use mathlib.Core.Bool.{Bool, true, false, cond}
 use mathlib.Core.List.{List}
 use native.Mathlib.Omega.{arith}
-use borrow.Author.Tests.{ltb-true, lt-ltb}
+use borrow.Author.Tests.{eqb-true, eqb-false, ltb-true, lt-ltb}
 use lib.Dec.{eqb, leb, ltb}
 use lib.ListN.{length, drop, length-set}
 use lib.Seq.{getD-set-other}
@@ -33,21 +33,20 @@ use Rattle.context.proofs.SoundFacts.{bounds-soundLink}
 use Rattle.packet.specs.Refusal.{numberOf, isAccepted}
 use Rattle.packet.specs.RefusalLaws.{numberOf-least}
 use Rattle.settings.specs.Settings.{lengthAllowed}
-use Rattle.context.specs.Decompressor.{filled, broke, applied, appliedWhole, checksumRead, rebuilt}
+use Rattle.context.specs.Decompressor.{filled, broke, Effect, applied, appliedWhole, checksumRead, rebuilt}
 use Rattle.context.proofs.DecompressorSound.{sound-filled, sound-broke, sound-applied, sound-appliedWhole}
 use Rattle.context.specs.declared.decompressor.Status.{Status}
 use Rattle.context.specs.declared.decompressor.Status.the-variants.{Empty, Live, Broken}
 use Rattle.context.specs.declared.decompressor.DecompressorContext.{DecompressorContext}
 use Rattle.packet.specs.declared.refusal.Verdict.{Verdict}
 use Rattle.packet.specs.declared.refusal.Verdict.the-variants.{Accepted, Refused}
-use Rattle.context.specs.declared.decompressor.Applied.{Applied}
 use Rattle.decompressor.specs.declared.old.OldForm.{OldForm}
 use Rattle.decompressor.specs.declared.old.OldForm.the-variants.{Taken}
 use Rattle.decompressor.specs.declared.table.Table.{Table}
 use Rattle.decompressor.specs.Answer.{Result, accepted, refused, delivered}
 use Rattle.decompressor.specs.Table.{noContext, soundOf, contextAt, withContext, Sound}
 use Rattle.decompressor.specs.TableLaws.{soundOf-true, sound-contextAt, sound-withContext}
-use Rattle.decompressor.specs.Receive.{packetOf, receivePlain, fullTable, receiveFullBy, receiveFull, rebuildTo, settleBy}
+use Rattle.decompressor.specs.Receive.{packetOf, receivePlain, fullTable, receiveFullBy, receiveFull, rebuildTo}
 use Rattle.decompressor.specs.Receive.{settle, settleRead}
 use Rattle.decompressor.specs.Receive.{receiveParts, receiveWhole, receiveOld, receiveUdp, receiveRtp, receiveOn}
 use Rattle.decompressor.specs.Receive.{receiveCompressed, receiveKind}
@@ -103,6 +102,15 @@ module _ {t : Table} {i : ℕ} where
   way-if true f g w v = w refl
   way-if false f g w v = v
 
+  -- 0 goes on, any other number is a refusal that leaves a table
+  module _ (number : ℕ) (after : Table) (f : List ℕ → Result) (w : number ≡ 0 → Way t i f) (l : Leaves t i after) where
+    number-by : (b : Bool) → eqb number 0 ≡ b → Way t i (λ output. cond b (f output) (refused after number output))
+    number-by true e = w (eqb-true number 0 e)
+    number-by false e = refuses after number (omega (arith, eqb-false)) l (λ output. refl)
+
+    way-number : Way t i (λ output. cond (eqb number 0) (f output) (refused after number output))
+    way-number = number-by (eqb number 0) refl
+
   delivered-leaves : (b : Bool) (after : Table) (bytes output : List ℕ) → Leaves t i after
       → Leaves t i (cond b (refused t 11 output) (accepted after bytes output) .table)
   delivered-leaves true after bytes output l = same
@@ -128,7 +136,7 @@ module _ {t : Table} {i : ℕ} where
 ---- FULL_HEADER
 
 module _ (t : Table) (s : List ℕ) (a : AllBytes s) where
-  full-leaves : fhJudged (t .settings .contexts) s ≡ Accepted → Leaves t (fhOf s .context) (fullTable t (fhOf s))
+  full-leaves : fhJudged (t .settings .contexts) s ≡ 0 → Leaves t (fhOf s .context) (fullTable t (fhOf s))
   full-leaves e =
       one (filled (fhOf s .header) (record { sequence = fhOf s .link; generation = fhOf s .generation }))
       (fhOf-context s (t .settings .contexts) e)
@@ -136,15 +144,16 @@ module _ (t : Table) (s : List ℕ) (a : AllBytes s) where
       (fhOf-range s a)
       (bounds-soundLink _ (record { sequence = omega (arith, fhOf-link s); generation = omega (arith, fhOf-generation s) })))
 
-  full-way : (v : Verdict) → fhJudged (t .settings .contexts) s ≡ v
-      → Way t (fhOf s .context) (λ output. receiveFullBy v t (fhOf s) s output)
-  full-way Accepted e = gives (fullTable t (fhOf s)) (packetOf (fhOf s .header) (drop (fhOf s .start) s)) (full-leaves e)
-      (λ output. refl)
-  full-way (Refused r) e = refuses t (numberOf r) (numberOf-least r) same (λ output. refl)
+  full-way : Way t (fhOf s .context) (λ output. receiveFullBy (fhJudged (t .settings .contexts) s) t (fhOf s) s output)
+  full-way =
+      way-number (fhJudged (t .settings .contexts) s) t
+      (λ output. delivered t (fullTable t (fhOf s)) (packetOf (fhOf s .header) (drop (fhOf s .start) s)) output)
+      (λ e. gives (fullTable t (fhOf s)) (packetOf (fhOf s .header) (drop (fhOf s .start) s)) (full-leaves e) (λ output. refl))
+      same
 
   receiveFull-way : Way t (byteAt s 3) (λ output. receiveFull t s output)
   unfolding receiveFull fhOf
-  receiveFull-way = full-way (fhJudged (t .settings .contexts) s) refl
+  receiveFull-way = full-way
 
 ---- COMPRESSED_UDP and COMPRESSED_RTP
 
@@ -158,17 +167,17 @@ module _ (t : Table) (i : ℕ) (sound : Sound t) (among : i < t .settings .conte
       (λ long. refuses t 10 (omega arith) same (λ output. refl))
       (gives (withContext t i c) (packetOf (rebuilt c sent) rest) (one c among e) (λ output. refl))
 
-  settleBy-way : (o : Verdict) (c : DecompressorContext) (sent : ℕ) (rest : List ℕ) → soundDecompressor c ≡ true
-      → Way t i (λ output. settleBy o t i c sent rest output)
-  settleBy-way Accepted c sent rest e = rebuildTo-way c sent rest e
-  settleBy-way (Refused r) c sent rest e = refuses (withContext t i c) (numberOf r) (numberOf-least r) (one c among e)
-      (λ output. refl)
+  settle-way : (x : Effect) (sent : ℕ) (rest : List ℕ) → soundDecompressor (x .context) ≡ true
+      → Way t i (λ output. settle x t i sent rest output)
+  settle-way x sent rest e =
+      way-number (x .number) (withContext t i (x .context)) (λ output. rebuildTo t i (x .context) sent rest output)
+      (λ z. rebuildTo-way (x .context) sent rest e) (one (x .context) among e)
 
   -- o: what was found of the reading
-  settleRead-way : (o : Verdict) (at : ℕ) (b : Applied) (sent : ℕ) (s : List ℕ) → soundDecompressor (b .context) ≡ true
-      → Way t i (λ output. settleRead (stopped at o) b t i sent s output)
-  settleRead-way Accepted at b sent s e = settleBy-way (b .verdict) (b .context) sent (drop at s) e
-  settleRead-way (Refused r) at b sent s e = refuses t (numberOf r) (numberOf-least r) same (λ output. refl)
+  settleRead-way : (o : Verdict) (at : ℕ) (x : Effect) (sent : ℕ) (s : List ℕ) → soundDecompressor (x .context) ≡ true
+      → Way t i (λ output. settleRead (stopped at o) x t i sent s output)
+  settleRead-way Accepted at x sent s e = settle-way x sent (drop at s) e
+  settleRead-way (Refused r) at x sent s e = refuses t (numberOf r) (numberOf-least r) same (λ output. refl)
 
   -- on a live context
   module _ (live : contextAt t i .status ≡ Live) where

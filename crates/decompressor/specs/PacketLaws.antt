@@ -17,7 +17,6 @@ use Rattle.headers.specs.Compressible.{compressible}
 use Rattle.headers.specs.CompressibleLaws.{compressible-size}
 use Rattle.headers.specs.ListLaws.{length-listBytes}
 use Rattle.headers.specs.RoundTrip.{printed-headerOf}
-use Rattle.packet.specs.declared.refusal.Verdict.the-variants as verdict
 use Rattle.links.specs.Fh.{fhJudged, fhOf}
 use Rattle.links.specs.FhLaws.{fhOf-start, fhOf-within, fhOf-range}
 use Rattle.packet.specs.declared.refusal.Refusal.the-variants.{NoRoom}
@@ -47,7 +46,7 @@ module _ {p : List ℕ} (a : AllBytes p) (e : compressible p ≡ true) where
 
 ---- the packet of a full header
 
-module _ (k : ℕ) (s : List ℕ) (a : AllBytes s) (e : fhJudged k s ≡ verdict.Accepted) where
+module _ (k : ℕ) (s : List ℕ) (a : AllBytes s) (e : fhJudged k s ≡ 0) where
   -- it is as long as the full header
   pub full-size : length s ≡ headerSize (fhOf s .header) + length (drop (fhOf s .start) s)
   full-size = omega (arith, fhOf-start s, fhOf-within s k e, length-drop (fhOf s .start) s)

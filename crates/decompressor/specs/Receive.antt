@@ -20,15 +20,12 @@ use Rattle.links.specs.Cr.{crOf}
 use Rattle.links.specs.Whole.{wholeOf}
 use Rattle.links.specs.declared.fh.FullHeader.{FullHeader}
 use Rattle.links.specs.Fh.{fhJudged, fhOf}
-use Rattle.packet.specs.Refusal.{numberOf, verdictNumber, isAccepted}
+use Rattle.packet.specs.Refusal.{verdictNumber, isAccepted}
 use Rattle.settings.specs.Settings.{lengthAllowed}
-use Rattle.context.specs.Decompressor.{filled, broke, applied, appliedWhole, checksumRead, rebuilt}
+use Rattle.context.specs.Decompressor.{filled, broke, Effect, applied, appliedWhole, checksumRead, rebuilt}
 use Rattle.context.specs.declared.decompressor.Status.{Status}
 use Rattle.context.specs.declared.decompressor.Status.the-variants.{Empty, Live, Broken}
 use Rattle.context.specs.declared.decompressor.DecompressorContext.{DecompressorContext}
-use Rattle.packet.specs.declared.refusal.Verdict.{Verdict}
-use Rattle.packet.specs.declared.refusal.Verdict.the-variants.{Accepted, Refused}
-use Rattle.context.specs.declared.decompressor.Applied.{Applied}
 use Rattle.decompressor.specs.declared.old.OldForm.{OldForm}
 use Rattle.decompressor.specs.declared.old.OldForm.the-variants.{Taken}
 use Rattle.decompressor.specs.declared.table.Table.{Table}
@@ -52,9 +49,10 @@ receivePlain t s output = delivered t t s output
 abbrev pub fullTable : Table → FullHeader → Table
 fullTable t f = withContext t (f .context) (filled (f .header) (record { sequence = f .link; generation = f .generation }))
 
-abbrev pub receiveFullBy : Verdict → Table → FullHeader → (s output : List ℕ) → Result
-receiveFullBy Accepted t f s output = delivered t (fullTable t f) (packetOf (f .header) (drop (f .start) s)) output
-receiveFullBy (Refused r) t f s output = refused t (numberOf r) output
+-- number: how it is judged
+abbrev pub receiveFullBy : (number : ℕ) → Table → FullHeader → (s output : List ℕ) → Result
+receiveFullBy number t f s output =
+    cond (eqb number 0) (delivered t (fullTable t f) (packetOf (f .header) (drop (f .start) s)) output) (refused t number output)
 
 unfoldable pub receiveFull : Table → (s output : List ℕ) → Result
 receiveFull t s output = receiveFullBy (fhJudged (t .settings .contexts) s) t (fhOf s) s output
@@ -68,18 +66,16 @@ rebuildTo before i c sent rest output =
     (refused before tooLong output)
     (delivered before (withContext before i c) (packetOf (rebuilt c sent) rest) output)
 
--- what its context made of it: 8 and 9 leave the context broken
-abbrev pub settleBy : Verdict → Table → (i : ℕ) → DecompressorContext → (sent : ℕ) → (rest output : List ℕ) → Result
-settleBy Accepted t i c sent rest output = rebuildTo t i c sent rest output
-settleBy (Refused r) t i c sent rest output = refused (withContext t i c) (numberOf r) output
-
-abbrev pub settle : Applied → Table → (i : ℕ) → (sent : ℕ) → (rest output : List ℕ) → Result
-settle a t i sent rest output = settleBy (a .verdict) t i (a .context) sent rest output
+-- what it does on its context: where that refuses it, the context is left broken
+abbrev pub settle : Effect → Table → (i : ℕ) → (sent : ℕ) → (rest output : List ℕ) → Result
+settle e t i sent rest output =
+    cond (eqb (e .number) 0) (rebuildTo t i (e .context) sent rest output)
+    (refused (withContext t i (e .context)) (e .number) output)
 
 -- the fields, read to their end or refused on the way with the context as it was
-abbrev pub settleRead : Place → Applied → Table → (i : ℕ) → (sent : ℕ) → (s output : List ℕ) → Result
-settleRead p a t i sent s output =
-    cond (isAccepted (p .verdict)) (settle a t i sent (drop (p .cursor .at) s) output)
+abbrev pub settleRead : Place → Effect → Table → (i : ℕ) → (sent : ℕ) → (s output : List ℕ) → Result
+settleRead p e t i sent s output =
+    cond (isAccepted (p .verdict)) (settle e t i sent (drop (p .cursor .at) s) output)
     (refused t (verdictNumber (p .verdict)) output)
 
 abbrev pub receiveParts : ReadParts → Table → (i q : ℕ) → (s output : List ℕ) → Result

@@ -25,18 +25,16 @@ use Rattle.links.specs.Cr.{crBytes, crFlags, crOf}
 use Rattle.links.specs.CrLaws.{contextOf-crBytes, headOf-crBytes, crOf-crBytes}
 use Rattle.links.specs.Fh.{fhBytes, fhOf}
 use Rattle.links.specs.FhLaws.{FhFits, length-fhBytes, fhJudged-fhBytes, fhOf-fhBytes}
-use Rattle.context.specs.Decompressor.{applied, broke, filled}
+use Rattle.context.specs.Decompressor.{acceptedAs, applied, broke, filled}
 use Rattle.context.specs.declared.decompressor.Status.{Status}
 use Rattle.context.specs.declared.decompressor.Status.the-variants.{Empty, Live, Broken}
 use Rattle.context.specs.declared.decompressor.DecompressorContext.{DecompressorContext}
-use Rattle.packet.specs.declared.refusal.Verdict.the-variants.{Accepted}
-use Rattle.context.specs.declared.decompressor.Applied.{Applied}
 use Rattle.decompressor.specs.declared.old.OldForm.{OldForm}
 use Rattle.decompressor.specs.declared.old.OldForm.the-variants.{Taken}
 use Rattle.decompressor.specs.declared.table.Table.{Table}
 use Rattle.decompressor.specs.Answer.{Result, refused, delivered}
 use Rattle.decompressor.specs.Table.{soundOf, contextAt, withContext}
-use Rattle.decompressor.specs.Receive.{packetOf, receivePlain, receiveFull, rebuildTo, settle, settleBy, settleRead}
+use Rattle.decompressor.specs.Receive.{packetOf, receivePlain, receiveFull, rebuildTo, settle, settleRead}
 use Rattle.decompressor.specs.Receive.{receiveParts, receiveUdp, receiveRtp, receiveOn, receiveCompressed, receiveKind}
 use Rattle.decompressor.specs.Receive.{receiveBy, receiveOf}
 
@@ -109,13 +107,13 @@ module _ (old : OldForm) (kind : ℕ) (t : Table) (i : ℕ) (h : Head) (s output
 
 -- parts that were read to a place, and accepted
 settle-accepted : (t : Table) (i q g at : ℕ) (h : Parts) (after : DecompressorContext) (s output : List ℕ)
-    → applied (t .settings .repeats) q (contextAt t i) h ≡ record { verdict = Accepted; gap = g; context = after }
+    → applied (t .settings .repeats) q (contextAt t i) h ≡ acceptedAs g after
     → receiveParts (record { place = good at; parts = h }) t i q s output ≡ rebuildTo t i after (h .checksum) (drop at s) output
 settle-accepted t i q g at h after s output e = rw e
 
 module _ (t : Table) (i q g : ℕ) (h : Parts) (after : DecompressorContext) (rest output : List ℕ)
     (sound : soundOf t ≡ true) (place : i < t .settings .contexts) (live : contextAt t i .status ≡ Live)
-    (accepts : applied (t .settings .repeats) q (contextAt t i) h ≡ record { verdict = Accepted; gap = g; context = after }) where
+    (accepts : applied (t .settings .repeats) q (contextAt t i) h ≡ acceptedAs g after) where
   on-live : (kind : ℕ) (head : Head) (s : List ℕ)
       → receiveOn Taken (contextAt t i .status) kind t i head s output ≡ receiveOn Taken Live kind t i head s output
   on-live kind head s = ap (λ (x : Status). receiveOn Taken x kind t i head s output) live

@@ -6,13 +6,11 @@ use mathlib.Core.Bool.{Bool, true, false, cond, not, _||_}
 use mathlib.Core.List.{List, [], _∷_, _++_}
 use lib.Dec.{eqb, leb, ltb}
 use lib.ListN.{length}
+use Rattle.codes.specs.Numbers.{cut, forbidden, noSuchContext}
 use Rattle.codes.specs.Reading.{byteAt}
 use Rattle.bytes.specs.declared.flags.Flags.{Flags}
 use Rattle.bytes.specs.Flags.{flagsOf, byteOf}
 use Rattle.links.specs.declared.cs.RecordFlags.{RecordFlags}
-use Rattle.packet.specs.declared.refusal.Verdict.{Verdict}
-use Rattle.packet.specs.declared.refusal.Verdict.the-variants.{Accepted, Refused}
-use Rattle.packet.specs.declared.refusal.Refusal.the-variants.{Cut, Forbidden, NoSuchContext}
 use Rattle.packet.specs.Refusal.{firstRefusal}
 
 ---- the flag byte of a record, both ways
@@ -70,24 +68,24 @@ recordAsks s i = recordFlagsAt s i .asks
 abbrev pub bitsForbidden : RecordFlags → (generation : ℕ) → Bool
 bitsForbidden f generation = f .zero1 || f .zero2 || f .zero3 || not (eqb (generation / 64) 0)
 
--- k: how many contexts there are
-unfoldable pub recordWith : (k context : ℕ) → RecordFlags → (generation : ℕ) → Verdict
-recordWith k context f generation =
-    cond (leb k context) (Refused NoSuchContext) (cond (bitsForbidden f generation) (Refused Forbidden) Accepted)
+-- rule 9.2: one record, 6, then 5, else 0. k: how many contexts there are
+unfoldable pub recordWith : (k context : ℕ) → RecordFlags → (generation : ℕ) → ℕ
+recordWith k context f generation = cond (leb k context) noSuchContext (cond (bitsForbidden f generation) forbidden 0)
 
-unfoldable pub recordJudged : (k : ℕ) → List ℕ → ℕ → Verdict
+unfoldable pub recordJudged : (k : ℕ) → List ℕ → ℕ → ℕ
 recordJudged k s i = recordWith k (recordContext s i) (recordFlagsAt s i) (byteAt s (recordAt i + 2))
 
 -- n records from record i on: the first that is refused
-abbrev pub recordsJudged : (k : ℕ) → List ℕ → (i n : ℕ) → Verdict
-recordsJudged k s i zero = Accepted
+abbrev pub recordsJudged : (k : ℕ) → List ℕ → (i n : ℕ) → ℕ
+recordsJudged k s i zero = 0
 recordsJudged k s i (suc n) = firstRefusal (recordJudged k s i) (recordsJudged k s (suc i) n)
 
-unfoldable pub requestJudged : (k : ℕ) → List ℕ → Verdict
+-- rule 9.2: 4, 5, 4, then by the records
+unfoldable pub requestJudged : (k : ℕ) → List ℕ → ℕ
 requestJudged k s =
-    cond (ltb (length s) 2) (Refused Cut)
-    (cond (not (eqb (byteAt s 0) 1) || eqb (recordCount s) 0) (Refused Forbidden)
-    (cond (not (eqb (length s) (2 + 3 * recordCount s))) (Refused Cut)
+    cond (ltb (length s) 2) cut
+    (cond (not (eqb (byteAt s 0) 1) || eqb (recordCount s) 0) forbidden
+    (cond (not (eqb (length s) (2 + 3 * recordCount s))) cut
     (recordsJudged k s 0 (recordCount s))))
 
 -- what a good request is, as far as it is acted on

@@ -11,14 +11,12 @@ use borrow.Author.Tests.{le-ltb, lt-leb, le-leb, eq-eqb, ne-eqb, leb-false, eqb-
 use lib.Dec.{eqb, leb, ltb}
 use lib.ListN.{length, getD, drop}
 use lib.Seq.{drop-drop, drop-cons, drop-nil}
+use Rattle.codes.specs.Numbers.{cut, forbidden, noSuchContext}
 use Rattle.codes.specs.Bytes.{AllBytes, none, more}
 use Rattle.codes.specs.Reading.{byteAt}
 use Rattle.codes.specs.RoundTrip.{left-first, left-byte, left-after}
 use Rattle.bytes.specs.Flags.{flagsOf, byteOf}
 use Rattle.bytes.specs.FlagsLaws.{flagsOf-byteOf, byteOf-lt}
-use Rattle.packet.specs.declared.refusal.Verdict.{Verdict}
-use Rattle.packet.specs.declared.refusal.Verdict.the-variants.{Accepted, Refused}
-use Rattle.packet.specs.declared.refusal.Refusal.the-variants.{Cut, Forbidden, NoSuchContext}
 use Rattle.packet.specs.Refusal.{firstRefusal}
 use Rattle.packet.specs.RefusalLaws.{firstRefusal-accepted}
 use Rattle.links.specs.declared.cs.RecordFlags.{RecordFlags}
@@ -34,23 +32,22 @@ recordFlagsOf-bits f h = ap recordFlagsOf (flagsOf-byteOf (recordFlagsBits f) h)
 ---- recordWith: context number, then bits
 
 module _ (k context : ℕ) (f : RecordFlags) (generation : ℕ) where
-  pub recordWith-context : k ≤ context → recordWith k context f generation ≡ (Refused NoSuchContext)
+  pub recordWith-context : k ≤ context → recordWith k context f generation ≡ noSuchContext
   unfolding recordWith
   recordWith-context h = rw (le-leb k context h)
 
   pub recordWith-bits : context < k → (b : Bool) → bitsForbidden f generation ≡ b
-      → recordWith k context f generation ≡ cond b (Refused Forbidden) Accepted
+      → recordWith k context f generation ≡ cond b forbidden 0
   unfolding recordWith
   recordWith-bits h b e = rw (lt-leb k context h, e)
 
-  recordWith-good : recordWith k context f generation ≡ Accepted → context < k
+  recordWith-good : recordWith k context f generation ≡ 0 → context < k
   unfolding recordWith
   recordWith-good = by (leb k context) refl
     where
       by : (b : Bool) → leb k context ≡ b
-          → cond b (Refused NoSuchContext) (cond (bitsForbidden f generation) (Refused Forbidden) Accepted) ≡ Accepted
-          → context < k
-      by true e g = let z : _≡_ {A = ℕ} 0 1 = cc in absurd (omega arith)
+          → cond b noSuchContext (cond (bitsForbidden f generation) forbidden 0) ≡ 0 → context < k
+      by true e g = absurd (omega arith)
       by false e g = leb-false _ _ e
 
 ---- recordsJudged
@@ -61,17 +58,17 @@ module _ (k : ℕ) (s : List ℕ) where
       → recordsJudged k s i (n - i) ≡ firstRefusal (recordJudged k s i) (recordsJudged k s (i + 1) (n - (i + 1)))
   recordsJudged-more i n h = let e : n - i ≡ suc (n - (i + 1)) = omega arith in rw (e, add-one)
 
-  pub recordsJudged-none : (i n : ℕ) → n ≤ i → recordsJudged k s i (n - i) ≡ Accepted
+  pub recordsJudged-none : (i n : ℕ) → n ≤ i → recordsJudged k s i (n - i) ≡ 0
   recordsJudged-none i n h = let e : n - i ≡ 0 = omega arith in rw e
 
 ---- what a good request is
 
 module _ (k : ℕ) (s : List ℕ) where
-  recordJudged-context : (i : ℕ) → recordJudged k s i ≡ Accepted → recordContext s i < k
+  recordJudged-context : (i : ℕ) → recordJudged k s i ≡ 0 → recordContext s i < k
   unfolding recordJudged
   recordJudged-context i = recordWith-good k _ (recordFlagsAt s i) (byteAt s (recordAt i + 2))
 
-  recordsJudged-contexts : (n i : ℕ) → recordsJudged k s i n ≡ Accepted → (j : ℕ) → j < n → recordContext s (i + j) < k
+  recordsJudged-contexts : (n i : ℕ) → recordsJudged k s i n ≡ 0 → (j : ℕ) → j < n → recordContext s (i + j) < k
   recordsJudged-contexts zero i e j h = absurd (omega arith)
   recordsJudged-contexts (suc n) i e zero h =
       rw add-zero (recordJudged-context i (firstRefusal-accepted (recordJudged k s i) (recordsJudged k s (suc i) n) e .0))
@@ -81,17 +78,16 @@ module _ (k : ℕ) (s : List ℕ) where
       (omega arith))
 
   request-by : (a b c : Bool) → not (eqb (length s) (2 + 3 * recordCount s)) ≡ c
-      → cond a (Refused Cut) (cond b (Refused Forbidden) (cond c (Refused Cut) (recordsJudged k s 0 (recordCount s)))) ≡ Accepted
-      → RequestGood k s
-  request-by true b c f e = let z : _≡_ {A = ℕ} 0 1 = cc in absurd (omega arith)
-  request-by false true c f e = let z : _≡_ {A = ℕ} 0 1 = cc in absurd (omega arith)
-  request-by false false true f e = let z : _≡_ {A = ℕ} 0 1 = cc in absurd (omega arith)
+      → cond a cut (cond b forbidden (cond c cut (recordsJudged k s 0 (recordCount s)))) ≡ 0 → RequestGood k s
+  request-by true b c f e = absurd (omega arith)
+  request-by false true c f e = absurd (omega arith)
+  request-by false false true f e = absurd (omega arith)
   request-by false false false f e = record {
     exact = eqb-true _ _ (not-false _ f);
     contexts = λ j h. rw zero-add at (recordsJudged-contexts (recordCount s) 0 e j h);
   }
 
-  pub requestJudged-good : requestJudged k s ≡ Accepted → RequestGood k s
+  pub requestJudged-good : requestJudged k s ≡ 0 → RequestGood k s
   unfolding requestJudged
   requestJudged-good e =
       request-by (ltb (length s) 2) (not (eqb (byteAt s 0) 1) || eqb (recordCount s) 0)
@@ -124,7 +120,7 @@ recordsBytes-append (r ∷ rs) qs = rw (recordsBytes-append rs qs)
 
 module _ (k : ℕ) (s : List ℕ) where
   record-good : (i : ℕ) (r : State) (l : List ℕ) → StateFits k r
-      → drop (recordAt i) s ≡ recordBytes (r .context) (r .link) (r .generation) ++ l → recordJudged k s i ≡ Accepted
+      → drop (recordAt i) s ≡ recordBytes (r .context) (r .link) (r .generation) ++ l → recordJudged k s i ≡ 0
   unfolding recordJudged
   record-good i r l f e =
       rw (
@@ -143,13 +139,13 @@ module _ (k : ℕ) (s : List ℕ) where
       rw q (left-after s (recordAt i) _ e 3)
 
   records-good : (rs : List State) (i : ℕ) → StatesFit k rs → drop (recordAt i) s ≡ recordsBytes rs
-      → recordsJudged k s i (length rs) ≡ Accepted
+      → recordsJudged k s i (length rs) ≡ 0
   records-good [] i f e = refl
   records-good (r ∷ rs) i (more-fit h f) e =
       rw (record-good i r (recordsBytes rs) h e) (records-good rs (suc i) f (next-record i r (recordsBytes rs) e))
 
 -- a report of at least one context is a good request
-pub requestJudged-csBytes : (k : ℕ) (rs : List State) → 0 < length rs → StatesFit k rs → requestJudged k (csBytes rs) ≡ Accepted
+pub requestJudged-csBytes : (k : ℕ) (rs : List State) → 0 < length rs → StatesFit k rs → requestJudged k (csBytes rs) ≡ 0
 unfolding requestJudged csBytes
 requestJudged-csBytes k rs h f =
     let n = length-recordsBytes rs in

@@ -5,14 +5,12 @@ use mathlib.Core.Bool.{Bool, cond, not, _&&_}
 use mathlib.Core.List.{List}
 use lib.Dec.{eqb, leb, ltb}
 use lib.ListN.{length}
+use Rattle.codes.specs.Numbers.{cut, forbidden, noSuchContext}
 use Rattle.codes.specs.Reading.{byteAt, wordAt}
 use Rattle.packet.specs.declared.header.Header.{Header}
 use Rattle.headers.specs.Header.{countAt, headerOf, headerBytes, sizeWith, headerSize}
 use Rattle.headers.specs.Checksum.{ipChecksumOf, ipChecksum}
 use Rattle.headers.specs.Compressible.{fixedForm}
-use Rattle.packet.specs.declared.refusal.Verdict.{Verdict}
-use Rattle.packet.specs.declared.refusal.Verdict.the-variants.{Accepted, Refused}
-use Rattle.packet.specs.declared.refusal.Refusal.the-variants.{Cut, Forbidden, NoSuchContext}
 use Rattle.links.specs.declared.fh.FullHeader.{FullHeader}
 
 ---- bytes
@@ -35,13 +33,13 @@ fieldsForm s = eqb (byteAt s 2 / 64) 1 && eqb (wordAt s 24 / 16) 0
 abbrev pub checksumRight : List ℕ → Bool
 checksumRight s = eqb (wordAt s 10) (ipChecksumOf s (length s))
 
--- k: how many contexts there are
-unfoldable pub fhJudged : (k : ℕ) → List ℕ → Verdict
+-- rule 3.3: 4, 6, 5, then 4 for its list, else 0. k: how many contexts there are
+unfoldable pub fhJudged : (k : ℕ) → List ℕ → ℕ
 fhJudged k s =
-    cond (ltb (length s) 40) (Refused Cut)
-    (cond (leb k (byteAt s 3)) (Refused NoSuchContext)
-    (cond (not (fixedForm s && fieldsForm s && checksumRight s)) (Refused Forbidden)
-    (cond (ltb (length s) (sizeWith (countAt s 28))) (Refused Cut) Accepted)))
+    cond (ltb (length s) 40) cut
+    (cond (leb k (byteAt s 3)) noSuchContext
+    (cond (not (fixedForm s && fieldsForm s && checksumRight s)) forbidden
+    (cond (ltb (length s) (sizeWith (countAt s 28))) cut 0)))
 
 ---- what it says
 

@@ -9,11 +9,8 @@ use native.Mathlib.Omega.{arith}
 use borrow.Author.Tests.{ltb-false, leb-false, eqb-true, eqb-false, le-ltb, lt-leb, not-true}
 use lib.Dec.{eqb, leb, ltb}
 use lib.ListN.{length}
+use Rattle.codes.specs.Numbers.{cut, forbidden, noSuchContext}
 use Rattle.codes.specs.Reading.{byteAt, wordAt}
-use Rattle.packet.specs.declared.refusal.Verdict.{Verdict}
-use Rattle.packet.specs.declared.refusal.Verdict.the-variants.{Accepted, Refused}
-use Rattle.packet.specs.declared.refusal.Refusal.the-variants.{Cut, Forbidden, NoSuchContext}
-use Rattle.packet.specs.Refusal.{verdictNumber}
 use Rattle.headers.specs.Header.{countAt, sizeWith}
 use Rattle.headers.specs.Checksum.{ipChecksumOf}
 use Rattle.headers.specs.Compressible.{fixedForm}
@@ -21,9 +18,6 @@ use Rattle.headers.specs.CompressibleLaws.{FixedForm, fixedForm-true}
 use Rattle.links.specs.Fh.{fieldsForm, checksumRight, fhJudged}
 
 ---- what is stated
-
-abbrev pub isForbidden : Verdict → Type 0
-isForbidden v = verdictNumber v ≡ 5
 
 -- first byte; leading 0, 1; twelve zeros; MF and fragment offset; protocol; IP checksum, once the length is put back; RTP version
 pub data ForbiddenForm (s : List ℕ) : Type 0 where
@@ -77,7 +71,7 @@ module _ (s : List ℕ) where
       by false e = refl
 
 module _ (k : ℕ) (s : List ℕ) where
-  pub fhJudged-forbidden : FhForbidden k s → isForbidden (fhJudged k s)
+  pub fhJudged-forbidden : FhForbidden k s → fhJudged k s ≡ forbidden
   unfolding fhJudged
   fhJudged-forbidden f =
       rw (le-ltb (length s) 40 (f .enough), lt-leb k (byteAt s 3) (f .context), form-wrong s (f .form))
@@ -108,8 +102,7 @@ module _ (s : List ℕ) where
 
 module _ (k : ℕ) (s : List ℕ) where
   judged-by : (a b c d : Bool) → ltb (length s) 40 ≡ a → leb k (byteAt s 3) ≡ b → not (formRight s) ≡ c
-      → isForbidden
-      (cond a (Refused Cut) (cond b (Refused NoSuchContext) (cond c (Refused Forbidden) (cond d (Refused Cut) Accepted))))
+      → cond a cut (cond b noSuchContext (cond c forbidden (cond d cut 0))) ≡ forbidden
       → FhForbidden k s
   judged-by true b c d x y z e = absurd (omega arith)
   judged-by false true c d x y z e = absurd (omega arith)
@@ -121,7 +114,7 @@ module _ (k : ℕ) (s : List ℕ) where
   judged-by false false false true x y z e = absurd (omega arith)
   judged-by false false false false x y z e = absurd (omega arith)
 
-  pub forbidden-fhJudged : isForbidden (fhJudged k s) → FhForbidden k s
+  pub forbidden-fhJudged : fhJudged k s ≡ forbidden → FhForbidden k s
   unfolding fhJudged
   forbidden-fhJudged e = judged-by (ltb (length s) 40) (leb k (byteAt s 3)) (not (formRight s))
       (ltb (length s) (sizeWith (countAt s 28))) refl refl refl e

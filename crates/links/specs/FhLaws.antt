@@ -8,6 +8,7 @@ use native.Mathlib.Omega.{arith}
 use borrow.Author.Tests.{le-ltb, lt-leb, eq-eqb, ltb-false, leb-false}
 use lib.Dec.{leb, ltb}
 use lib.ListN.{length, length-append}
+use Rattle.codes.specs.Numbers.{cut, forbidden, noSuchContext}
 use Rattle.codes.specs.Bytes.{AllBytes}
 use Rattle.codes.specs.Reading.{byteAt, wordAt}
 use Rattle.packet.specs.Ranges.{HeaderInRange}
@@ -21,8 +22,6 @@ use Rattle.headers.specs.HeaderLaws.{ipChecksum-headerBytes, fixedForm-headerBy
 use Rattle.headers.specs.HeaderLaws.{length-headerBytes, allBytes-headerBytes}
 use Rattle.headers.specs.HeaderLaws.{udpLength-headerBytes, ipChecksum-headerBytes, fixedForm-headerBytes}
 use Rattle.headers.specs.ChecksumLaws.{ipChecksumOf-headerBytes, ipChecksum-lt}
-use Rattle.packet.specs.declared.refusal.Verdict.the-variants.{Accepted, Refused}
-use Rattle.packet.specs.declared.refusal.Refusal.the-variants.{Cut, Forbidden, NoSuchContext}
 use Rattle.links.specs.Fh.{ipField, fhBytes, fieldsForm, checksumRight, fhJudged, fhOf}
 
 ---- what is told by a full header that is judged good
@@ -39,20 +38,18 @@ module _ (k : ℕ) (s : List ℕ) where
 
   judged-by : (a b c d : Bool) → leb k (byteAt s 3) ≡ b → not (fixedForm s && fieldsForm s && checksumRight s) ≡ c
       → ltb (length s) (sizeWith (countAt s 28)) ≡ d
-      → cond a (Refused Cut) (cond b (Refused NoSuchContext) (cond c (Refused Forbidden) (cond d (Refused Cut) Accepted)))
-      ≡ Accepted
-      → FhGood k s
-  judged-by true b c d f g h e = let z : _≡_ {A = ℕ} 0 1 = cc in absurd (omega arith)
-  judged-by false true c d f g h e = let z : _≡_ {A = ℕ} 0 1 = cc in absurd (omega arith)
-  judged-by false false true d f g h e = let z : _≡_ {A = ℕ} 0 1 = cc in absurd (omega arith)
-  judged-by false false false true f g h e = let z : _≡_ {A = ℕ} 0 1 = cc in absurd (omega arith)
+      → cond a cut (cond b noSuchContext (cond c forbidden (cond d cut 0))) ≡ 0 → FhGood k s
+  judged-by true b c d f g h e = absurd (omega arith)
+  judged-by false true c d f g h e = absurd (omega arith)
+  judged-by false false true d f g h e = absurd (omega arith)
+  judged-by false false false true f g h e = absurd (omega arith)
   judged-by false false false false f g h e = record {
     whole = ltb-false _ _ h;
     context = leb-false _ _ f;
     form = and-first (fixedForm s) (fieldsForm s) (checksumRight s) g;
   }
 
-  pub fhJudged-good : fhJudged k s ≡ Accepted → FhGood k s
+  pub fhJudged-good : fhJudged k s ≡ 0 → FhGood k s
   unfolding fhJudged
   fhJudged-good e =
       judged-by (ltb (length s) 40) (leb k (byteAt s 3)) (not (fixedForm s && fieldsForm s && checksumRight s))
@@ -65,11 +62,11 @@ module _ (s : List ℕ) where
   unfolding fhOf
   fhOf-start = refl
 
-  pub fhOf-within : (k : ℕ) → fhJudged k s ≡ Accepted → fhOf s .start ≤ length s
+  pub fhOf-within : (k : ℕ) → fhJudged k s ≡ 0 → fhOf s .start ≤ length s
   unfolding fhOf
   fhOf-within k e = rw (headerSize-headerOf s) (fhJudged-good k s e .whole)
 
-  pub fhOf-context : (k : ℕ) → fhJudged k s ≡ Accepted → fhOf s .context < k
+  pub fhOf-context : (k : ℕ) → fhJudged k s ≡ 0 → fhOf s .context < k
   unfolding fhOf
   fhOf-context k e = fhJudged-good k s e .context
 
@@ -164,7 +161,7 @@ module _ (k context generation link total : ℕ) (h : Header) (fits : FhFits k c
     checksum-holds e = rw (← e) (eq-eqb _ _ (checksum-word ∙ sym checksum-worked))
 
     -- a full header, followed by anything that makes up its packet, is judged good
-    pub fhJudged-fhBytes : total ≡ length packet → fhJudged k packet ≡ Accepted
+    pub fhJudged-fhBytes : total ≡ length packet → fhJudged k packet ≡ 0
     unfolding fhJudged
     fhJudged-fhBytes e =
         let n = length-append (fhBytes context generation link total h) rest in

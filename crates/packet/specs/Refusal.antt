@@ -2,7 +2,8 @@
 -- The number of each (rule 3.1), said here and nowhere else.
 -- Used by everything that judges, and by the answers of every call.
 use Prim.Native.Nat.{ℕ}
-use mathlib.Core.Bool.{Bool, true, false}
+use mathlib.Core.Bool.{Bool, true, false, cond}
+use lib.Dec.{eqb}
 use Rattle.codes.specs.Numbers.{unsound, badLength, unknownType, cut, forbidden, noSuchContext, unusedCode}
 use Rattle.codes.specs.Numbers.{notLive, outOfStep, tooLong, noRoom}
 use Rattle.packet.specs.declared.refusal.Refusal.{Refusal}
@@ -34,7 +35,6 @@ abbrev pub isAccepted : Verdict → Bool
 isAccepted Accepted = true
 isAccepted (Refused r) = false
 
--- the first of two that refuses
-abbrev pub firstRefusal : Verdict → Verdict → Verdict
-firstRefusal Accepted v = v
-firstRefusal (Refused r) v = Refused r
+-- of two numbers the first that is a refusal's
+abbrev pub firstRefusal : ℕ → ℕ → ℕ
+firstRefusal a b = cond (eqb a 0) b a

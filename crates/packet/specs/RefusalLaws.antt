@@ -2,12 +2,13 @@
 -- Used wherever a call's answer is told from its number.
 use Prim.Native.Nat.{ℕ, _≤_}
 use mathlib.Core.Path.{_≡_, refl}
+use mathlib.Core.Bool.{Bool, true, false, cond}
 use native.Mathlib.Omega.{arith}
+use borrow.Author.Tests.{ne-eqb, eqb-true, eqb-false}
+use lib.Dec.{eqb}
 use Rattle.packet.specs.declared.refusal.Refusal.{Refusal}
 use Rattle.packet.specs.declared.refusal.Refusal.the-variants.{Unsound, BadLength, UnknownType, Cut, Forbidden, NoSuchContext}
 use Rattle.packet.specs.declared.refusal.Refusal.the-variants.{UnusedCode, NotLive, OutOfStep, TooLong, NoRoom}
-use Rattle.packet.specs.declared.refusal.Verdict.{Verdict}
-use Rattle.packet.specs.declared.refusal.Verdict.the-variants.{Accepted, Refused}
 use Rattle.packet.specs.Refusal.{numberOf, firstRefusal}
 
 -- no refusal has the number of an acceptance
@@ -24,9 +25,13 @@ numberOf-least OutOfStep = omega arith
 numberOf-least TooLong = omega arith
 numberOf-least NoRoom = omega arith
 
-pub refused-accepted : (r : Refusal) → Refused r ≡ Accepted → ⊥
-refused-accepted r e = let z : _≡_ {A = ℕ} 0 1 = cc in absurd (omega arith)
+-- so a call that goes by the number takes it for a refusal
+pub numberOf-refused : (r : Refusal) → eqb (numberOf r) 0 ≡ false
+numberOf-refused r = ne-eqb (numberOf r) 0 (λ e. omega (arith, numberOf-least r))
 
-pub firstRefusal-accepted : (a b : Verdict) → firstRefusal a b ≡ Accepted → (a ≡ Accepted) × (b ≡ Accepted)
-firstRefusal-accepted Accepted b e = (refl, e)
-firstRefusal-accepted (Refused r) b e = (e, absurd (refused-accepted r e))
+first-by : (t : Bool) (a b : ℕ) → eqb a 0 ≡ t → cond t b a ≡ 0 → (a ≡ 0) × (b ≡ 0)
+first-by true a b t e = (eqb-true a 0 t, e)
+first-by false a b t e = (e, absurd (eqb-false a 0 t e))
+
+pub firstRefusal-accepted : (a b : ℕ) → firstRefusal a b ≡ 0 → (a ≡ 0) × (b ≡ 0)
+firstRefusal-accepted a b e = first-by (eqb a 0) a b refl e

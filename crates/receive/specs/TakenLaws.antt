@@ -21,7 +21,7 @@ use Rattle.links.specs.Whole.{wholeOf}
 use Rattle.packet.specs.Refusal as refusal
 use Rattle.packet.specs.declared.refusal.Refusal.{Refusal}
 use Rattle.packet.specs.declared.refusal.Refusal.the-variants.{NotLive, TooLong, NoRoom}
-use Rattle.context.specs.Decompressor.{broke, rebuilt, applied, appliedWhole, checksumRead}
+use Rattle.context.specs.Decompressor.{broke, rebuilt, Effect, applied, appliedWhole, checksumRead}
 use Rattle.context.specs.declared.decompressor.Status.{Status}
 use Rattle.context.specs.declared.decompressor.Status.the-variants.{Empty, Live, Broken}
 use Rattle.context.specs.declared.decompressor.DecompressorContext.{DecompressorContext}
@@ -135,30 +135,31 @@ notLive Broken = true
 ---- receiveParts, receiveOld: the repeats and the context are those of the table
 
 module _ (n : ℕ) (c : DecompressorContext) (x : Taken) (after s output : List ℕ) where
-  pub takes-parts : (q : ℕ) (r : ReadParts)
-      → ((m : ℕ) → Takes m c x after (λ t i. settleRead (r .place) (applied n q c (r .parts)) t i (r .parts .checksum) s output))
+  pub takes-parts : (q : ℕ) (r : ReadParts) (y : Effect) → y ≡ applied n q c (r .parts)
+      → ((m : ℕ) → Takes m c x after (λ t i. settleRead (r .place) y t i (r .parts .checksum) s output))
       → Takes n c x after (λ t i. receiveParts r t i q s output)
-  takes-parts q r h = record {
+  takes-parts q r y a h = record {
     anywhere = λ t i e f. h n .anywhere t i e f
+        ∙ ap (λ (z : Effect). settleRead (r .place) z t i (r .parts .checksum) s output) a
         ∙ sym (λ j. settleRead (r .place) (applied (e j) q (f j) (r .parts)) t i (r .parts .checksum) s output);
   }
 
-  takes-wholeParts : (q : ℕ) (r : ReadWhole)
-      → ((m : ℕ) → Takes m c x after (λ t i. settleRead (r .place) (appliedWhole n q c (r .parts) (r .header)) t i
-      (r .parts .checksum) s output))
+  takes-wholeParts : (q : ℕ) (r : ReadWhole) (y : Effect) → y ≡ appliedWhole n q c (r .parts) (r .header)
+      → ((m : ℕ) → Takes m c x after (λ t i. settleRead (r .place) y t i (r .parts .checksum) s output))
       → Takes n c x after (λ t i. receiveWhole r t i q s output)
-  takes-wholeParts q r h = record {
+  takes-wholeParts q r y a h = record {
     anywhere = λ t i e f. h n .anywhere t i e f
+        ∙ ap (λ (z : Effect). settleRead (r .place) z t i (r .parts .checksum) s output) a
         ∙ sym (λ j. settleRead (r .place) (appliedWhole (e j) q (f j) (r .parts) (r .header)) t i (r .parts .checksum) s output);
   }
 
   pub takes-whole : (h : Head) (r : ReadWhole) → r ≡ wholeOf s (h .place) (h .flags) (checksumRead c)
-      → ((m : ℕ) → Takes m c x after (λ t i. settleRead (r .place) (appliedWhole n (h .flags .low) c (r .parts) (r .header)) t i
-      (r .parts .checksum) s output))
+      → (y : Effect) → y ≡ appliedWhole n (h .flags .low) c (r .parts) (r .header)
+      → ((m : ℕ) → Takes m c x after (λ t i. settleRead (r .place) y t i (r .parts .checksum) s output))
       → Takes n c x after (λ t i. receiveOld old.Taken t i h s output)
   unfolding receiveOld
-  takes-whole h r w k = record {
-    anywhere = λ t i e f. takes-wholeParts (h .flags .low) r k .anywhere t i e f
+  takes-whole h r w y a k = record {
+    anywhere = λ t i e f. takes-wholeParts (h .flags .low) r y a k .anywhere t i e f
         ∙ ap (λ (y : ReadWhole). receiveWhole y t i (h .flags .low) s output) w
         ∙ sym (λ j. receiveWhole (wholeOf s (h .place) (h .flags) (checksumRead (f j))) t i (h .flags .low) s output);
   }

@@ -2,7 +2,6 @@ ghost use mathlib.Core.Path.{_≡_};
 ghost use Prim.Native.Nat.{_≤_};
 ghost use lib.ListN.{length, drop};
 ghost use Rattle.links.specs.Fh.{fhJudged, fhOf};
-ghost use Rattle.packet.specs.declared.refusal.Verdict.the-variants.{Accepted};
 ghost use Rattle.decompressor.specs.Answer.{said, delivered};
 ghost use Rattle.decompressor.specs.Table.{Sound};
 ghost use Rattle.decompressor.specs.Receive.{packetOf, fullTable, receiveFull};
@@ -19,7 +18,7 @@ use refresh::fh::read_fh;
 
 // A full header that was judged good. The packet is as long as it, since only what stands in two fields differs.
 fn accept_full(t: Table, s: &[u8], out: &mut [u8]) -> Answer
-    requires { ⌜ Sound t × (fhJudged (t .settings .contexts) (now s) ≡ Accepted) × (length (now s) ≤ 1500) ⌝ }
+    requires { ⌜ Sound t × (fhJudged (t .settings .contexts) (now s) ≡ 0) × (length (now s) ≤ 1500) ⌝ }
     ensures { λ r. ⌜ said r (now (out .exit)) ≡ delivered t (fullTable t (fhOf (now (s .entry))))
         (packetOf (fhOf (now (s .entry)) .header) (drop (fhOf (now (s .entry)) .start) (now (s .entry)))) (now (out .entry)) ⌝ }
 {

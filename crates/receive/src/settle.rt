@@ -2,8 +2,7 @@ ghost use mathlib.Core.Path.{_≡_};
 ghost use Prim.Native.Nat.{ℕ, _≤_};
 ghost use lib.ListN.{length};
 ghost use Rattle.packet.specs.Ranges.{Narrow};
-ghost use Rattle.context.specs.Decompressor.{rebuilt};
-ghost use Rattle.packet.specs.declared.refusal.Verdict.the-variants.{Accepted};
+ghost use Rattle.context.specs.Decompressor.{effectOf, rebuilt};
 ghost use Rattle.decompressor.specs.Receive.{rebuildTo, settle, settleRead};
 ghost use Rattle.receive.specs.Taken.{Takes};
 use crate::output::packet_size;
@@ -66,9 +65,10 @@ pub fn settle(
     rest: &[u8],
     out: &mut [u8],
 ) -> Taken
-    requires { ⌜ (a .verdict ≡ Accepted → Narrow (rebuilt (a .context) sent)) × (length (now rest) ≤ 1500) ⌝ }
+    requires { ⌜ (effectOf a .number ≡ 0 → Narrow (rebuilt (a .context) sent)) × (length (now rest) ≤ 1500) ⌝ }
     ensures { λ r.
-        ⌜ ((n : ℕ) → Takes n before r (now (out .exit)) (λ t i. settle a t i sent (now (rest .entry)) (now (out .entry)))) ⌝ }
+        ⌜ ((n : ℕ) → Takes n before r (now (out .exit))
+        (λ t i. settle (effectOf a) t i sent (now (rest .entry)) (now (out .entry)))) ⌝ }
 {
     let found = a.verdict;
     let context = a.context;
@@ -90,10 +90,11 @@ pub fn settle_read(
     s: &[u8],
     out: &mut [u8],
 ) -> Taken
-    requires { ⌜ (a .verdict ≡ Accepted → Narrow (rebuilt (a .context) sent)) × (p .cursor .at ≤ length (now s))
+    requires { ⌜ (effectOf a .number ≡ 0 → Narrow (rebuilt (a .context) sent)) × (p .cursor .at ≤ length (now s))
         × (length (now s) ≤ 1500) ⌝ }
     ensures { λ r.
-        ⌜ ((n : ℕ) → Takes n before r (now (out .exit)) (λ t i. settleRead p a t i sent (now (s .entry)) (now (out .entry)))) ⌝ }
+        ⌜ ((n : ℕ) → Takes n before r (now (out .exit))
+        (λ t i. settleRead p (effectOf a) t i sent (now (s .entry)) (now (out .entry)))) ⌝ }
 {
     let found = p.verdict;
     match found {

@@ -5,6 +5,7 @@ ghost use lib.ListN.{length};
 ghost use mathlib.Core.List.{[], _∷_};
 ghost use Rattle.bytes.specs.Put.{Wrote};
 ghost use Rattle.bytes.specs.Flags.{flagsOf, byteOf};
+ghost use Rattle.packet.specs.Refusal.{verdictNumber};
 ghost use Rattle.links.specs.Cs.{recordFlagsOf, recordFlagsBits, recordBytes};
 ghost use Rattle.links.specs.Cs.{recordCount, recordContext, recordAsks, recordJudged, recordsJudged, requestJudged};
 use bytes::flags::Flags;
@@ -60,7 +61,7 @@ pub fn record_count(s: &[u8]) -> usize
 // One record: its context number first, then the bits that 6.6 has as 0. A top bit of 0 is not refused.
 fn judge_record(contexts: u8, s: &[u8], i: usize) -> Verdict
     requires { ⌜ 2 + 3 * i + 3 ≤ length (now s) ⌝ }
-    ensures { λ r. ⌜ r ≡ recordJudged contexts (now (s .entry)) i ⌝ }
+    ensures { λ r. ⌜ verdictNumber r ≡ recordJudged contexts (now (s .entry)) i ⌝ }
 {
     let at = 2 + 3 * i;
     if contexts <= s[at] {
@@ -76,7 +77,7 @@ fn judge_record(contexts: u8, s: &[u8], i: usize) -> Verdict
 // n records from the first on.
 fn judge_records(contexts: u8, s: &[u8], n: usize) -> Verdict
     requires { ⌜ 2 + 3 * n ≤ length (now s) ⌝ }
-    ensures { λ r. ⌜ r ≡ recordsJudged contexts (now (s .entry)) 0 n ⌝ }
+    ensures { λ r. ⌜ verdictNumber r ≡ recordsJudged contexts (now (s .entry)) 0 n ⌝ }
 {
     let mut i = 0;
     while i < n {
@@ -93,7 +94,7 @@ fn judge_records(contexts: u8, s: &[u8], n: usize) -> Verdict
 
 // A request of any bytes, judged whole.
 pub fn judge_request(contexts: u8, s: &[u8]) -> Verdict
-    ensures { λ r. ⌜ r ≡ requestJudged contexts (now (s .entry)) ⌝ }
+    ensures { λ r. ⌜ verdictNumber r ≡ requestJudged contexts (now (s .entry)) ⌝ }
 {
     if s.len() < 2 {
         return Verdict::Refused(Refusal::Cut);

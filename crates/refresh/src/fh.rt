@@ -4,6 +4,7 @@ ghost use lib.ListN.{length};
 ghost use Rattle.headers.specs.Header.{countAt, sizeWith, headerSize};
 ghost use Rattle.bytes.specs.Put.{Wrote};
 ghost use Rattle.packet.specs.Ranges.{Narrow};
+ghost use Rattle.packet.specs.Refusal.{verdictNumber};
 ghost use Rattle.links.specs.Fh.{fieldsForm, fhJudged, fhOf, ipField, fhBytes};
 use headers_read::form::fixed_form;
 use headers_read::form::ip_checksum_of;
@@ -30,7 +31,7 @@ fn fields_form(s: &[u8]) -> bool
 // A full header of any bytes, judged whole. The total length is its own, since only two fields differ from its packet.
 pub fn judge_fh(contexts: u8, s: &[u8]) -> Verdict
     requires { ⌜ length (now s) < 65536 ⌝ }
-    ensures { λ r. ⌜ r ≡ fhJudged contexts (now (s .entry)) ⌝ }
+    ensures { λ r. ⌜ verdictNumber r ≡ fhJudged contexts (now (s .entry)) ⌝ }
 {
     let size = s.len();
     if size < 40 {

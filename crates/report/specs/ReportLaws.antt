@@ -11,7 +11,6 @@ use borrow.Author.Tests.{eqb-true}
 use lib.Dec.{eqb, ltb}
 use lib.ListN.{length, getD, take, drop, length-append, take-append-drop}
 use lib.Seq.{take-suc, take-all, length-take-le}
-use Rattle.packet.specs.declared.refusal.Verdict.the-variants.{Accepted}
 use Rattle.links.specs.Cs.{State, recordsBytes, csBytes, requestJudged}
 use Rattle.links.specs.CsLaws.{StateFits, StatesFit, none-fit, more-fit, length-recordsBytes, length-csBytes, recordsBytes-append}
 use Rattle.links.specs.CsLaws.{requestJudged-csBytes}
@@ -234,7 +233,7 @@ module _ (k : ℕ) where
 
 -- what a sound table reports, if it reports anything, is a good request
 pub report-good : (t : Table) → Sound t → 0 < length (statesFrom 0 (t .contexts))
-    → requestJudged (t .settings .contexts) (reportBytes t) ≡ Accepted
+    → requestJudged (t .settings .contexts) (reportBytes t) ≡ 0
 report-good t s h =
     rw (reportOn-some (statesFrom 0 (t .contexts)) h)
     (requestJudged-csBytes (t .settings .contexts) (statesFrom 0 (t .contexts)) h

@@ -2,10 +2,10 @@ use borrow.Author.Tests.{not-true, not-false}
 use Rattle.compressor.specs.Request.{requestTable}
 use Rattle.compressor.specs.CanSendLaws.{sound-repeats, sound-most}
 use Rattle.compressor.specs.TableLaws.{soundOf-true}
-use mathlib.Core.Path.{sym, _∙_}
-use Rattle.packet.specs.declared.refusal.Verdict.the-variants.{Accepted, Refused}
+use mathlib.Core.Path.{sym, ap, _∙_}
+use Rattle.packet.specs.Refusal.{verdictNumber}
 use Rattle.links.specs.CsLaws.{requestJudged-good}
-use Rattle.compressor.specs.RequestLaws.{requestOf-unsound, requestOf-judged}
+use Rattle.compressor.specs.RequestLaws.{requestOf-unsound, requestOf-good, requestOf-refused}
 use borrow.Author.Needs.{needs}
 use Rattle.request.proofs.request.Statement.{statement}
 use Rattle.request.proofs.request.Tie as tie
@@ -30,7 +30,7 @@ act-on-all-requires c κs = let a = c .before .before .before .before .before .b
       sound-repeats (a .t) s,
       sound-most (a .t) s,
       requestJudged-good (a .t .settings .contexts) (a .s .now)
-          (sym (c .before .before .judge-request .ensures) ∙ c .enum-told .given .1),
+          (sym (c .before .before .judge-request .ensures) ∙ ap verdictNumber (c .enum-told .given .1)),
     )
 
 enum-known-why : tie.Need-enum-known-why
@@ -39,15 +39,16 @@ enum-known-why c = search needs
 returns-2 : tie.Need-returns-2
 returns-2 c = let a = c .before .before .before .before .before .before .before .args in
     rw (c .act-on-all .ensures)
-    (requestOf-judged (a .t) (a .s .now) Accepted (sym (c .before .before .before .before .before .sound .ensures)
+    (requestOf-good (a .t) (a .s .now) (sym (c .before .before .before .before .before .sound .ensures)
     ∙ not-false _ (c .before .before .before .before .if1 .left))
-    (sym (c .before .before .before .judge-request .ensures) ∙ c .before .enum-told .given .1))
+    (sym (c .before .before .before .judge-request .ensures) ∙ ap verdictNumber (c .before .enum-told .given .1)))
 
 returns-3 : tie.Need-returns-3
 returns-3 c = let a = c .before .before .before .before .before .before .before .args in
-    requestOf-judged (a .t) (a .s .now) (Refused (c .before .why .given .0 .0))
+    requestOf-refused (a .t) (a .s .now)
     (sym (c .before .before .before .before .before .sound .ensures) ∙ not-false _ (c .before .before .before .before .if1 .left))
-    (sym (c .before .before .before .judge-request .ensures) ∙ c .before .why .given .1)
+    (c .before .why .given .0 .0)
+    (sym (c .before .before .before .judge-request .ensures) ∙ ap verdictNumber (c .before .why .given .1))
 
 pub request-spec : {M : Type 1} → statement M
 request-spec =

@@ -2,7 +2,7 @@ use Rattle.receive.specs.TakenLaws.{takes-whole}
 use Rattle.receive.proofs.NarrowLaws.{whole-narrow}
 use Rattle.links.proofs.Range.{wholeOf-within, wholeOf-sound, wholeOf-header}
 use Rattle.links.specs.Whole.{wholeOf}
-use Rattle.context.specs.Decompressor.{checksumRead}
+use Rattle.context.specs.Decompressor.{effectOf, checksumRead}
 use borrow.Author.Needs.{needs}
 use Rattle.receive.proofs.compressed.receive_whole.Statement.{statement}
 use Rattle.receive.proofs.compressed.receive_whole.Tie as tie
@@ -23,13 +23,17 @@ settle-read-requires c κs = let p = c .before .before .before .before .before .
     let h = a .h in
     let k = checksumRead (a .c) in
     let w = wholeOf s (h .place) (h .flags) k in
+    let e = rw (
+      c .before .before .before .before .before .read-cu-whole .ensures,
+      c .before .before .before .before .before .before .reads-checksum .ensures,
+    ) at (c .before .apply-whole .ensures) in
     rw (
-      c .before .apply-whole .ensures,
       c .before .before .before .before .before .read-cu-whole .ensures,
       c .before .before .before .before .before .before .reads-checksum .ensures,
     ) (
       whole-narrow (a .n) (h .flags .low) (a .c) (w .parts) (p .1) (w .parts .checksum) (p .0 .link) (p .0 .sound)
-          (wholeOf-sound s (h .place) (h .flags) k) (w .header) (wholeOf-header s (h .place) (h .flags) k),
+          (wholeOf-sound s (h .place) (h .flags) k) (w .header) (wholeOf-header s (h .place) (h .flags) k)
+          (effectOf (c .before .apply-whole .result)) e,
       wholeOf-within s (h .place) (h .flags) k (p .0 .within),
       p .0 .short,
     )
@@ -44,7 +48,8 @@ returns c = let a = c .before .before .before .before .before .before .before .b
     (c .before .before .before .before .before .before .before .before .read-cu-whole .result)
     (rw (c .before .before .before .before .before .before .before .before .before .reads-checksum .ensures) at
     (c .before .before .before .before .before .before .before .before .read-cu-whole .ensures))
-    (rw (c .before .before .before .before .apply-whole .ensures) at (c .before .before .settle-read .ensures))
+    (effectOf (c .before .before .before .before .apply-whole .result)) (c .before .before .before .before .apply-whole .ensures)
+    (c .before .before .settle-read .ensures)
 
 pub receive-whole-spec : {M : Type 1} → statement M
 receive-whole-spec =

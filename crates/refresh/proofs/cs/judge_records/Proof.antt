@@ -1,4 +1,5 @@
 use native.Mathlib.Nat.{sub-zero}
+use Rattle.packet.specs.RefusalLaws.{numberOf-refused}
 use Rattle.links.specs.CsLaws.{recordsJudged-more, recordsJudged-none}
 use Rattle.links.specs.Cs.{recordsJudged}
 use borrow.Author.Needs.{needs}
@@ -33,6 +34,7 @@ returns c = let l = c .before .before .before .before .before .loop in
       recordsJudged-more _ _ (l .i) _ (c .before .before .before .before .loop-test .taken),
       ← c .before .before .before .judge-record .ensures,
       c .before .why .given .1,
+      numberOf-refused (c .before .why .given .0 .0),
     )
 
 add-i : tie.Need-add-i Inv-loop μ-loop
