@@ -13,7 +13,7 @@ use Rattle.compressor.specs.declared.answer.Outcome.the-variants.{Accept
 use Rattle.compressor.specs.declared.answer.Answer.{Answer}
 use Rattle.compressor.specs.declared.table.Table.{Table}
 
--- number (0: accepted), link type and length of what was given out, the output after the call, the table after the call
+-- rule 3.1: number (0: accepted), link type and length of what was given out, the output after the call, the table after the call
 pub record Result : Type 0 where
   pub number : ℕ
   pub kind : ℕ
@@ -29,13 +29,14 @@ accepted t k bytes output = record { number = 0; kind = k; length = length bytes
 abbrev pub refused : Table → (number : ℕ) → (output : List ℕ) → Result
 refused t n output = record { number = n; kind = 0; length = 0; output = output; table = t }
 
--- 11 where the output is shorter than the exact result
+-- rule 3.1: 11 where the output has fewer bytes than the result, and the table stays
 abbrev pub delivered : (before after : Table) → (kind : ℕ) → (bytes output : List ℕ) → Result
 delivered before after k bytes output = cond (ltb (length output) (length bytes)) (refused before noRoom output)
     (accepted after k bytes output)
 
 ---- number and values of each outcome
 
+-- rule 3.1
 abbrev pub numberOf : Outcome → ℕ
 numberOf (Accepted k n) = 0
 numberOf (Refused r) = refusal.numberOf r

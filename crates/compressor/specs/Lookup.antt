@@ -13,6 +13,7 @@ use Rattle.compressor.specs.declared.lookup.Found.{Found}
 use Rattle.compressor.specs.declared.lookup.Found.the-variants.{At, Nowhere}
 use Rattle.compressor.specs.Table.{isEmpty, noContext}
 
+-- rule 5.4: both addresses, both ports, SSRC
 abbrev pub sameFlow : Flow → Flow → Bool
 sameFlow a b =
     eqb (a .source) (b .source)
@@ -21,7 +22,7 @@ sameFlow a b =
     && eqb (a .dport) (b .dport)
     && eqb (a .ssrc) (b .ssrc)
 
--- the context is in use, by this flow
+-- rule 5.4: a live context of this flow
 abbrev pub isOf : Flow → CompressorContext → Bool
 isOf f c = not (isEmpty c) && sameFlow f (c .flow)
 

@@ -17,16 +17,16 @@ use Rattle.compressor.specs.Table.{noContext, soundOf}
 abbrev pub asked : (n : ℕ) → Bool → (i : ℕ) → List CompressorContext → List CompressorContext
 asked n asks i cs = cond asks (set cs i (requested n (getD cs i noContext))) cs
 
--- the first so many records, one after another
+-- rules 9.4, 9.5: the first so many records, one after another
 abbrev pub askedAll : (n : ℕ) → List ℕ → List CompressorContext → (records : ℕ) → List CompressorContext
 askedAll n s cs zero = cs
 askedAll n s cs (suc i) = asked n (recordAsks s i) (recordContext s i) (askedAll n s cs i)
 
--- rule 9.3: an accepted request gives nothing out
+-- rules 9.4, 9.5: the table after all records
 abbrev pub requestTable : Table → List ℕ → Table
 requestTable t s = record { settings = t .settings; contexts = askedAll (t .settings .repeats) s (t .contexts) (recordCount s) }
 
--- number: how it is judged
+-- rule 9.3: an accepted request gives nothing out, a refused one leaves the table; number: how it is judged
 abbrev pub requestBy : (number : ℕ) → Table → List ℕ → Result
 requestBy number t s = cond (eqb number 0) (accepted (requestTable t s) 0 [] []) (refused t number [])
 

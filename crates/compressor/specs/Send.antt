@@ -6,6 +6,7 @@ use mathlib.Core.List.{List, _++_}
 use mathlib.Core.Option.{Option, none, some}
 use lib.ListN.{length, drop}
 use Rattle.codes.specs.Numbers.{unsound, badLength}
+use Rattle.packet.specs.Types.{plain}
 use Rattle.packet.specs.declared.header.Header.{Header}
 use Rattle.headers.specs.Header.{headerOf, headerSize}
 use Rattle.headers.specs.Compressible.{compressible}
@@ -24,6 +25,7 @@ use Rattle.compressor.specs.Lookup.{placeOf}
 abbrev pub sentBytes : ℕ → List ℕ → Header → Going → List ℕ
 sentBytes i p h a = linkBytes i (length p) h a ++ drop (headerSize h) p
 
+-- rules 1.1, 3.1: the link type goes with the bytes; without room the context stays
 abbrev pub sendStep : Table → (i : ℕ) → (p output : List ℕ) → Header → Going → Result
 sendStep t i p output h a = delivered t (withContext t i (a .context)) (a .kind) (sentBytes i p h a) output
 
@@ -32,11 +34,11 @@ sendAt t i p output = sendStep t i p output (headerOf p) (stepOn (t .settings .r
 
 ---- Plain, or on the context of its flow
 
--- rule 5.3
+-- rule 5.3: plain, and no context changes
 abbrev pub sendPlain : Table → (p output : List ℕ) → Result
-sendPlain t p output = delivered t t 0 p output
+sendPlain t p output = delivered t t plain p output
 
--- rule 5.4
+-- rule 5.4: plain too where no context is left
 abbrev pub sendTo : Option ℕ → Table → (p output : List ℕ) → Result
 sendTo (some i) t p output = sendAt t i p output
 sendTo none t p output = sendPlain t p output

@@ -53,7 +53,7 @@ soundOf t =
     && all (soundCompressor (t .settings .repeats)) (t .contexts)
     && all isEmpty (drop (t .settings .contexts) (t .contexts))
 
--- what a sound table is made of
+-- rule 2.2: what a sound table is made of
 pub record Sound (t : Table) : Type 0 where
   pub settings : settings.sound (t .settings) ≡ true
   pub contexts : all (soundCompressor (t .settings .repeats)) (t .contexts) ≡ true
@@ -66,7 +66,7 @@ emptyTable s = record { settings = s; contexts = replicate 64 emptyCompressor }
 abbrev pub unopened : Table
 unopened = emptyTable (record { repeats = 0; contexts = 0 })
 
--- an opening: a table with nothing in it, or its refusal and the table that was there
+-- rules 1.3, 3.1: an opening: a table with nothing in it, or 1 and the table that was there
 abbrev pub openBy : Table → settings.Opening → Result
 openBy t o =
     cond (eqb (o .number) 0) (accepted (emptyTable (record { repeats = o .repeats; contexts = o .contexts })) 0 [] [])

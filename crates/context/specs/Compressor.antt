@@ -5,6 +5,7 @@ use Prim.Native.Nat.{ℕ, _+_}
 use mathlib.Core.Bool.{Bool, true, false, cond, not, _&&_, _||_}
 use lib.Dec.{eqb, ltb}
 use Rattle.codes.specs.Difference.{difference, hasCode}
+pub use Rattle.packet.specs.Types.{fullHeader, compressedUdp, compressedRtp}
 use Rattle.packet.specs.Csrc.{sameList, noList}
 use Rattle.packet.specs.Sent.{sentIf8, sentIf16, sentIf32}
 use Rattle.packet.specs.declared.csrc.Csrc.{Csrc}
@@ -29,7 +30,7 @@ use Rattle.context.specs.declared.step.Step.{Step}
 abbrev pub resetDeltas : Deltas
 resetDeltas = record { id = 1; timestamp = 0 }
 
--- nothing is due but full headers
+-- rule 8.2: nothing is due but full headers
 abbrev pub onlyFull : ℕ → Due
 onlyFull n = record { full = n; id = 0; sequence = 0; timestamp = 0; payload = 0; list = 0; did = 0; dts = 0 }
 
@@ -79,6 +80,7 @@ withDue n i t d = record {
   dts = t;
 }
 
+-- rule 8.3: the next generation
 abbrev pub risen : Link → Link
 risen l = record { sequence = l .sequence; generation = nextGeneration (l .generation) }
 
@@ -107,14 +109,16 @@ begun n h c = cond (sameConstants h c) c (started n c)
 abbrev pub skips : CompressorContext → Bool
 skips c = ltb 0 (c .due .full)
 
--- rules 9.4, 9.5: else it starts a run too, but for an empty context
+-- rules 9.4, 9.5: else it starts a run too
 unfoldable pub startedUnlessDue : ℕ → CompressorContext → CompressorContext
 startedUnlessDue n c = cond (skips c) c (started n c)
 
+-- rule 9.4: nothing comes of a record for an empty context
 abbrev pub requestedBy : Usage → ℕ → CompressorContext → CompressorContext
 requestedBy Empty n c = c
 requestedBy Live n c = startedUnlessDue n c
 
+-- rules 9.4, 9.5: what a record that asks does to its context
 unfoldable pub requested : ℕ → CompressorContext → CompressorContext
 requested n c = requestedBy (c .status) n c
 
@@ -148,6 +152,7 @@ repeatsTimestamp h c = eqb (differences h c .timestamp) (c .earlier .timestamp)
 unfoldable pub adoptsId : Header → CompressorContext → Bool
 adoptsId h c = mayAdopt c && offPattern 16 (c .ip .id) (c .deltas .id) (h .ip .id) && repeatsId h c
 
+-- rules 8.6, 4.3: one of 32 bits may have none
 unfoldable pub adoptsTimestamp : Header → CompressorContext → Bool
 adoptsTimestamp h c =
     mayAdopt c && offPattern 32 (c .rtp .timestamp) (c .deltas .timestamp) (h .rtp .timestamp)
@@ -180,24 +185,15 @@ dueNow d j = record {
   dts = isDue (j .dts) (d .dts);
 }
 
+-- rule 8.8: one thing or more is due
 unfoldable pub anyDue : DueNow → Bool
 anyDue d = d .id || d .sequence || d .timestamp || d .payload || d .did || d .dts || d .list
-
--- rule 1.1: the link types of a packet on a context
-abbrev pub fullHeader : ℕ
-fullHeader = 1
-
-abbrev pub compressedUdp : ℕ
-compressedUdp = 2
-
-abbrev pub compressedRtp : ℕ
-compressedRtp = 3
 
 -- rules 8.2, 8.8: FH while full headers are due; else CU if anything is due; else CR
 unfoldable pub kindOf : (full : ℕ) (any : Bool) → ℕ
 kindOf full any = cond (ltb 0 full) fullHeader (cond any compressedUdp compressedRtp)
 
--- rules 6.2, 6.3: a CU or CR on this context has the UDP checksum in the checksum's place, else nothing
+-- rules 6.2, 6.3, 6.5: a CU or CR on this context has the UDP checksum in the checksum's place, else nothing
 abbrev pub checksumSent : CompressorContext → Bool
 checksumSent c = not (c .blank)
 
@@ -267,7 +263,7 @@ pub record Going : Type 0 where
   pub parts : Parts
   pub context : CompressorContext
 
--- sent from a context that is ready for it; now: what is due in it
+-- rules 8.5 to 8.8: sent from a context that is ready for it; now: what is due in it
 unfoldable pub sentWith : ℕ → Header → CompressorContext → Judged → DueNow → Going
 sentWith n h c j now = record {
   kind = kindOf (c .due .full) (anyDue now);
@@ -279,14 +275,15 @@ sentWith n h c j now = record {
 abbrev pub sentFrom : ℕ → Header → CompressorContext → Going
 sentFrom n h c = sentWith n h c (judged h c) (dueNow (c .due) (judged h c))
 
--- any packet after a context's first
+-- rules 8.3 to 8.8: any packet after a context's first
 unfoldable pub stepOf : ℕ → Header → CompressorContext → Going
 stepOf n h c = sentFrom n h (reset (begun n h c))
 
--- a context's first packet: a full header, and nothing beside it
+-- rule 8.2: a context's first packet: a full header, and nothing beside it
 abbrev pub nothingDue : DueNow
 nothingDue = record { id = false; sequence = false; timestamp = false; payload = false; list = false; did = false; dts = false }
 
+-- rules 8.1, 8.2
 unfoldable pub firstStep : ℕ → Header → Link → Going
 firstStep n h l = record {
   kind = fullHeader;

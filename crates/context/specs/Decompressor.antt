@@ -41,6 +41,7 @@ filled h l = record {
 abbrev pub furthest : ℕ → ℕ
 furthest n = n + 1
 
+-- rule 3.1: the gaps of refusal 9, which are none of 1 to n + 1
 abbrev pub isOutOfStep : (n g : ℕ) → Bool
 isOutOfStep n g = eqb g 0 || ltb (furthest n) g
 
@@ -70,7 +71,7 @@ rtpAfter g c p = record {
       (p .timestamp .value);
 }
 
--- rule 7.5
+-- rule 7.5: a difference that came is the delta from now on
 unfoldable pub deltasHeld : Deltas → Parts → Deltas
 deltasHeld kept p = record {
   id = cond (p .did .sent) (p .did .value) (kept .id);
@@ -143,17 +144,19 @@ acceptedAs g next = record { number = 0; gap = g; context = next }
 abbrev pub refusedAs : (number g : ℕ) → DecompressorContext → Effect
 refusedAs number g c = record { number = number; gap = g; context = broke c }
 
--- number: how the gap is judged; next: the context where it is in step
+-- rule 3.1: next is the context where the gap is in step; else it is broken
 unfoldable pub settled : (number g : ℕ) → (c next : DecompressorContext) → Effect
 settled number g c next = cond (eqb number 0) (acceptedAs g next) (refusedAs number g c)
 
+-- rule 7.2
 abbrev pub gapOf : (q : ℕ) → DecompressorContext → ℕ
 gapOf q c = gap (c .link .sequence) q
 
--- on a live context; no other has its gap looked at (rule 7.2)
+-- rule 7.2: on a live context; no other has its gap looked at
 unfoldable pub applied : (n q : ℕ) → DecompressorContext → Parts → Effect
 applied n q c p = settled (gapJudged n (gapOf q c)) (gapOf q c) c (advanced (gapOf q c) q c p)
 
+-- rules 7.2, 7.7
 unfoldable pub appliedWhole : (n q : ℕ) → DecompressorContext → Parts → RtpHeader → Effect
 appliedWhole n q c p w = settled (gapJudged n (gapOf q c)) (gapOf q c) c (advancedWhole (gapOf q c) q c p w)
 
@@ -163,7 +166,7 @@ effectOf a = record { number = verdictNumber (a .verdict); gap = a .gap; context
 
 ---- The rebuilt packet
 
--- rule 6.5: a CU or CR on this context has the UDP checksum in the checksum's place, else nothing
+-- rules 6.2, 6.3, 6.5: a CU or CR on this context has the UDP checksum in the checksum's place, else nothing
 abbrev pub checksumRead : DecompressorContext → Bool
 checksumRead c = c .carried
 
@@ -171,7 +174,7 @@ checksumRead c = c .carried
 abbrev pub checksumOf : DecompressorContext → (sent : ℕ) → ℕ
 checksumOf c sent = cond (checksumRead c) sent 0
 
--- the header at which a context stands
+-- rule 7.8: the header at which a context stands
 unfoldable pub rebuilt : DecompressorContext → (sent : ℕ) → Header
 rebuilt c sent = record {
   flow = c .flow;

@@ -14,15 +14,15 @@ nextSequence s = (s + 1) % 16
 unfoldable pub nextGeneration : ℕ → ℕ
 nextGeneration g = (g + 1) % 64
 
--- rule 8.5: the difference from the packet before is not the delta
+-- rule 8.5: a field is not one delta past where the packet before had it
 unfoldable pub offPattern : (w last delta x : ℕ) → Bool
 offPattern w last delta x = not (eqb (difference w last x) delta)
 
--- rule 8.7: a counter after a packet; a fresh change is due in the next n
+-- rules 8.6, 8.7: a counter after a packet; a fresh change is due in the next n
 unfoldable pub counted : (n : ℕ) (fresh : Bool) (due : ℕ) → ℕ
 counted n fresh due = cond fresh n (due - 1)
 
--- rule 8.7: due in this packet
+-- rules 8.6, 8.7: due in this packet
 unfoldable pub isDue : (fresh : Bool) (due : ℕ) → Bool
 isDue fresh due = fresh || ltb 0 due
 

@@ -32,16 +32,19 @@ isZero x = eqb x 0
 abbrev pub zeros : List ℕ → Bool
 zeros l = all isZero l
 
+-- rules 2.3, 2.4: a count of at most 15, and 0 in the words past it
 unfoldable pub soundList : Csrc → Bool
 soundList l =
     leb (l .count) 15
     && zeros (drop (l .count) (l .words))
 
+-- rule 2.3
 unfoldable pub soundLink : Link → Bool
 soundLink l =
     leb (l .sequence) 15
     && leb (l .generation) 63
 
+-- rule 2.3: full headers up to n + 1, everything else up to n
 unfoldable pub soundDue : ℕ → Due → Bool
 soundDue n d =
     leb (d .full) (n + 1)
@@ -55,6 +58,7 @@ soundDue n d =
 
 ---- 0 in every field (rule 2.4)
 
+-- rule 2.4
 abbrev pub zeroFlow : Flow → Bool
 zeroFlow f =
     eqb (f .source) 0
@@ -112,6 +116,7 @@ zeroLink l =
 
 ---- The compressor's context
 
+-- rule 2.3: a live context; only packets with an even destination port are compressed
 unfoldable pub usedSound : ℕ → CompressorContext → Bool
 usedSound n c =
     eqb (c .flow .dport % 2) 0
@@ -122,6 +127,7 @@ usedSound n c =
     && soundDue n (c .due)
     && soundLink (c .link)
 
+-- rule 2.4: an empty one
 unfoldable pub unusedSound : CompressorContext → Bool
 unusedSound c =
     zeroFlow (c .flow)
@@ -134,6 +140,7 @@ unusedSound c =
     && zeroDue (c .due)
     && zeroLink (c .link)
 
+-- rules 2.3, 2.4
 unfoldable pub soundCompressorBy : Usage → ℕ → CompressorContext → Bool
 soundCompressorBy usage.Empty n c = unusedSound c
 soundCompressorBy usage.Live n c = usedSound n c
@@ -143,6 +150,7 @@ soundCompressor n c = soundCompressorBy (c .status) n c
 
 ---- The decompressor's context
 
+-- rule 2.3: a context that was filled
 unfoldable pub filledSound : DecompressorContext → Bool
 filledSound c =
     leb (c .ip .flags) 3
@@ -151,6 +159,7 @@ filledSound c =
     && hasCode 32 (c .deltas .timestamp)
     && soundLink (c .link)
 
+-- rule 2.4: one that was never filled
 unfoldable pub unfilledSound : DecompressorContext → Bool
 unfilledSound c =
     zeroFlow (c .flow)
@@ -162,6 +171,7 @@ unfilledSound c =
     && zeroDeltas (c .deltas)
     && zeroLink (c .link)
 
+-- rule 2.4: an empty context was never filled, a live one was, a broken one may have been
 unfoldable pub soundDecompressorBy : Status → DecompressorContext → Bool
 soundDecompressorBy Empty c = not (c .filled) && unfilledSound c
 soundDecompressorBy Live c = c .filled && filledSound c
@@ -181,6 +191,7 @@ noIp = record { tos = 0; ttl = 0; flags = 0; id = 0 }
 abbrev pub noRtp : Rtp
 noRtp = record { padding = false; extension = false; payload = 0; sequence = 0; timestamp = 0 }
 
+-- rule 2.4: 0 in every field
 unfoldable pub emptyCompressor : CompressorContext
 emptyCompressor = record {
   status = usage.Empty;
@@ -195,6 +206,7 @@ emptyCompressor = record {
   link = record { sequence = 0; generation = 0 };
 }
 
+-- rule 2.4: 0 in every field
 unfoldable pub emptyDecompressor : DecompressorContext
 emptyDecompressor = record {
   status = Empty;

@@ -13,7 +13,7 @@ use Rattle.decompressor.specs.declared.answer.Outcome.the-variants.{Acce
 use Rattle.decompressor.specs.declared.answer.Answer.{Answer}
 use Rattle.decompressor.specs.declared.table.Table.{Table}
 
--- number (0: accepted), length of what was given out, the output after the call, the table after the call
+-- rule 3.1: number (0: accepted), length of what was given out, the output after the call, the table after the call
 pub record Result : Type 0 where
   pub number : ℕ
   pub length : ℕ
@@ -28,13 +28,14 @@ accepted t bytes output = record { number = 0; length = length bytes; output = f
 abbrev pub refused : Table → (number : ℕ) → (output : List ℕ) → Result
 refused t n output = record { number = n; length = 0; output = output; table = t }
 
--- 11 where the output is shorter than the exact result
+-- rule 3.1: 11 where the output has fewer bytes than the result, and the table stays
 abbrev pub delivered : (before after : Table) → (bytes output : List ℕ) → Result
 delivered before after bytes output = cond (ltb (length output) (length bytes)) (refused before noRoom output)
     (accepted after bytes output)
 
 ---- number and values of each outcome
 
+-- rule 3.1
 abbrev pub numberOf : Outcome → ℕ
 numberOf (Accepted n) = 0
 numberOf (Refused r) = refusal.numberOf r

@@ -7,6 +7,7 @@ use lib.Dec.{eqb, leb, ltb}
 use lib.ListN.{length, drop}
 use Rattle.codes.specs.Numbers.{unsound, badLength, unknownType, cut, noSuchContext, notLive, tooLong}
 use Rattle.codes.specs.Reading.{byteAt}
+use Rattle.packet.specs.Types.{plain, fullHeader, compressedUdp, compressedRtp}
 use Rattle.packet.specs.declared.header.Header.{Header}
 use Rattle.fields.specs.declared.place.Place.{Place}
 use Rattle.headers.specs.Header.{headerSize}
@@ -40,39 +41,41 @@ packetOf h rest = printed h (headerSize h + length rest) ++ rest
 
 ---- Plain
 
+-- rule 3.3: 11
 abbrev pub receivePlain : Table → (s output : List ℕ) → Result
 receivePlain t s output = delivered t t s output
 
 ---- FULL_HEADER (rules 6.1, 7.1)
 
--- the table with the context set
+-- rule 7.1: the table with the context set
 abbrev pub fullTable : Table → FullHeader → Table
 fullTable t f = withContext t (f .context) (filled (f .header) (record { sequence = f .link; generation = f .generation }))
 
--- number: how it is judged
+-- rule 3.3: what its bytes are refused with, then 11; number: how they are judged
 abbrev pub receiveFullBy : (number : ℕ) → Table → FullHeader → (s output : List ℕ) → Result
 receiveFullBy number t f s output =
     cond (eqb number 0) (delivered t (fullTable t f) (packetOf (f .header) (drop (f .start) s)) output) (refused t number output)
 
+-- rules 3.3, 6.1, 7.1
 unfoldable pub receiveFull : Table → (s output : List ℕ) → Result
 receiveFull t s output = receiveFullBy (fhJudged (t .settings .contexts) s) t (fhOf s) s output
 
 ---- COMPRESSED_UDP and COMPRESSED_RTP, on the context at place i
 
--- accepted by its context: 10, then 11. sent: the UDP checksum that was read; rest: what follows the fields
+-- rule 3.3: accepted by its context: 10, then 11. sent: the UDP checksum that was read; rest: what follows the fields
 abbrev pub rebuildTo : (before : Table) → (i : ℕ) → DecompressorContext → (sent : ℕ) → (rest output : List ℕ) → Result
 rebuildTo before i c sent rest output =
     cond (ltb 1500 (headerSize (rebuilt c sent) + length rest))
     (refused before tooLong output)
     (delivered before (withContext before i c) (packetOf (rebuilt c sent) rest) output)
 
--- what it does on its context: where that refuses it, the context is left broken
+-- rule 3.1: what it does on its context; where that refuses it, the context is left broken
 abbrev pub settle : Effect → Table → (i : ℕ) → (sent : ℕ) → (rest output : List ℕ) → Result
 settle e t i sent rest output =
     cond (eqb (e .number) 0) (rebuildTo t i (e .context) sent rest output)
     (refused (withContext t i (e .context)) (e .number) output)
 
--- the fields, read to their end or refused on the way with the context as it was
+-- rules 3.1, 3.3: the fields, read to their end or refused on the way with the context as it was
 abbrev pub settleRead : Place → Effect → Table → (i : ℕ) → (sent : ℕ) → (s output : List ℕ) → Result
 settleRead p e t i sent s output =
     cond (isAccepted (p .verdict)) (settle e t i sent (drop (p .cursor .at) s) output)
@@ -82,23 +85,23 @@ abbrev pub receiveParts : ReadParts → Table → (i q : ℕ) → (s output : Li
 receiveParts r t i q s output = settleRead (r .place) (applied (t .settings .repeats) q (contextAt t i) (r .parts)) t i
     (r .parts .checksum) s output
 
--- a CU without F, read whole
+-- rule 7.7: a CU without F, read whole
 abbrev pub receiveWhole : ReadWhole → Table → (i q : ℕ) → (s output : List ℕ) → Result
 receiveWhole r t i q s output =
     settleRead (r .place) (appliedWhole (t .settings .repeats) q (contextAt t i) (r .parts) (r .header)) t i
     (r .parts .checksum) s output
 
--- a CR on a live context; h: the flag byte
+-- rule 6.2: a CR on a live context; h: the flag byte
 abbrev pub receiveRtp : Table → (i : ℕ) → Head → (s output : List ℕ) → Result
 receiveRtp t i h s output = receiveParts (crOf s (h .place) (h .flags) (checksumRead (contextAt t i))) t i (h .flags .low) s output
 
--- how a CU without F is taken
+-- rules 6.3, 7.7: how a CU without F is taken
 unfoldable pub receiveOld : OldForm → Table → (i : ℕ) → Head → (s output : List ℕ) → Result
 receiveOld Taken t i h s output =
     receiveWhole (wholeOf s (h .place) (h .flags) (checksumRead (contextAt t i))) t i (h .flags .low) s output
 
 module _ (old : OldForm) where
-  -- a CU on a live context
+  -- rule 6.3: a CU on a live context
   abbrev pub receiveUdp : Table → (i : ℕ) → Head → (s output : List ℕ) → Result
   receiveUdp t i h s output =
       cond (cuFlagsOf (h .flags) .values)
@@ -109,7 +112,7 @@ module _ (old : OldForm) where
   abbrev pub receiveOn : Status → (kind : ℕ) → Table → (i : ℕ) → Head → (s output : List ℕ) → Result
   receiveOn Empty kind t i h s output = refused (withContext t i (broke (contextAt t i))) notLive output
   receiveOn Broken kind t i h s output = refused (withContext t i (broke (contextAt t i))) notLive output
-  receiveOn Live kind t i h s output = cond (eqb kind 2) (receiveUdp t i h s output) (receiveRtp t i h s output)
+  receiveOn Live kind t i h s output = cond (eqb kind compressedUdp) (receiveUdp t i h s output) (receiveRtp t i h s output)
 
   -- rule 3.3: 6, then 4 where there is no flag byte
   unfoldable pub receiveCompressed : (kind : ℕ) → Table → (s output : List ℕ) → Result
@@ -122,18 +125,21 @@ module _ (old : OldForm) where
 
   ---- By type
 
+  -- rules 1.1, 3.3
   unfoldable pub receiveKind : (kind : ℕ) → Table → (s output : List ℕ) → Result
   receiveKind kind t s output =
-      cond (eqb kind 0) (receivePlain t s output)
-      (cond (eqb kind 1) (receiveFull t s output) (receiveCompressed kind t s output))
+      cond (eqb kind plain) (receivePlain t s output)
+      (cond (eqb kind fullHeader) (receiveFull t s output) (receiveCompressed kind t s output))
 
   -- rule 3.3: 1, 3, 2, then by type
   unfoldable pub receiveBy : Table → (kind : ℕ) → (s output : List ℕ) → Result
   receiveBy t kind s output =
       cond (soundOf t)
-      (cond (leb kind 3) (cond (lengthAllowed (length s)) (receiveKind kind t s output) (refused t badLength output)) (refused t unknownType output))
+      (cond (leb kind compressedRtp)
+      (cond (lengthAllowed (length s)) (receiveKind kind t s output) (refused t badLength output))
+      (refused t unknownType output))
       (refused t unsound output)
 
--- the decompressor's own receive
+-- rule 3.3: the decompressor's own receive
 abbrev pub receiveOf : Table → (kind : ℕ) → (s output : List ℕ) → Result
 receiveOf t kind s output = receiveBy Taken t kind s output

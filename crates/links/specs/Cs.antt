@@ -15,6 +15,7 @@ use Rattle.packet.specs.Refusal.{firstRefusal}
 
 ---- the flag byte of a record, both ways
 
+-- rule 6.6: the flag byte of a record
 abbrev pub recordFlagsOf : Flags → RecordFlags
 recordFlagsOf f = record { asks = f .bit7; zero1 = f .bit6; zero2 = f .bit5; zero3 = f .bit4; link = f .low }
 
@@ -23,16 +24,17 @@ recordFlagsBits f = record { bit7 = f .asks; bit6 = f .zero1; bit5 = f .zero2; b
 
 ---- bytes
 
--- what a report says of one context
+-- rule 9.1: what a report says of one context
 pub record State : Type 0 where
   pub context : ℕ
   pub link : ℕ
   pub generation : ℕ
 
--- 1, 0, 0, 0, last link sequence
+-- rule 6.6: the bits 1, 0, 0, 0 and the last link sequence
 abbrev pub recordFlags : (link : ℕ) → RecordFlags
 recordFlags link = record { asks = true; zero1 = false; zero2 = false; zero3 = false; link = link }
 
+-- rule 6.6: context number, flag byte, generation
 abbrev pub recordBytes : (context link generation : ℕ) → List ℕ
 recordBytes context link generation = context ∷ byteOf (recordFlagsBits (recordFlags link)) ∷ generation ∷ []
 
@@ -40,16 +42,17 @@ abbrev pub recordsBytes : List State → List ℕ
 recordsBytes [] = []
 recordsBytes (r ∷ rs) = recordBytes (r .context) (r .link) (r .generation) ++ recordsBytes rs
 
--- type code, count, records
+-- rule 6.6: type code, count, records
 unfoldable pub csBytes : List State → List ℕ
 csBytes rs = 1 ∷ length rs ∷ recordsBytes rs
 
 ---- what a request says
 
+-- rule 6.6
 abbrev pub recordCount : List ℕ → ℕ
 recordCount s = byteAt s 1
 
--- where record i stands, its context number, its flags, and whether it asks for full headers
+-- rule 6.6: where record i stands, its context number, its flags, and whether it asks for full headers
 abbrev pub recordAt : ℕ → ℕ
 recordAt i = 2 + 3 * i
 
@@ -59,6 +62,7 @@ recordContext s i = byteAt s (recordAt i)
 abbrev pub recordFlagsAt : List ℕ → ℕ → RecordFlags
 recordFlagsAt s i = recordFlagsOf (flagsOf (byteAt s (recordAt i + 1)))
 
+-- rule 9.4: its top bit
 abbrev pub recordAsks : List ℕ → ℕ → Bool
 recordAsks s i = recordFlagsAt s i .asks
 
@@ -68,14 +72,14 @@ recordAsks s i = recordFlagsAt s i .asks
 abbrev pub bitsForbidden : RecordFlags → (generation : ℕ) → Bool
 bitsForbidden f generation = f .zero1 || f .zero2 || f .zero3 || not (eqb (generation / 64) 0)
 
--- rule 9.2: one record, 6, then 5, else 0. k: how many contexts there are
+-- rule 9.2: 6, then 5; k: how many contexts there are
 unfoldable pub recordWith : (k context : ℕ) → RecordFlags → (generation : ℕ) → ℕ
 recordWith k context f generation = cond (leb k context) noSuchContext (cond (bitsForbidden f generation) forbidden 0)
 
 unfoldable pub recordJudged : (k : ℕ) → List ℕ → ℕ → ℕ
 recordJudged k s i = recordWith k (recordContext s i) (recordFlagsAt s i) (byteAt s (recordAt i + 2))
 
--- n records from record i on: the first that is refused
+-- rule 9.2: n records from record i on: the first that is refused
 abbrev pub recordsJudged : (k : ℕ) → List ℕ → (i n : ℕ) → ℕ
 recordsJudged k s i zero = 0
 recordsJudged k s i (suc n) = firstRefusal (recordJudged k s i) (recordsJudged k s (suc i) n)

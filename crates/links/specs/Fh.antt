@@ -15,25 +15,25 @@ use Rattle.links.specs.declared.fh.FullHeader.{FullHeader}
 
 ---- bytes
 
--- in the IP length's place: 0, 1, six bits of generation, eight of context number
+-- rule 6.1: in the IP length's place: the bits 0, 1 and the generation in a byte, then the context number
 abbrev pub ipField : (context generation : ℕ) → ℕ
 ipField context generation = (64 + generation) * 256 + context
 
--- the header of a packet of so many bytes, whose IP checksum stays; in the UDP length's place stands the link sequence
+-- rule 6.1: the header of a packet of so many bytes, whose IP checksum stays; in the UDP length's place stands the link sequence
 unfoldable pub fhBytes : (context generation link : ℕ) → (total : ℕ) → Header → List ℕ
 fhBytes context generation link total h = headerBytes (ipField context generation) link (ipChecksum h total) h
 
 ---- how it is judged
 
--- the leading 0, 1 and the twelve zeros
+-- rule 6.1: the bits 0, 1 and the twelve that are 0
 unfoldable pub fieldsForm : List ℕ → Bool
 fieldsForm s = eqb (byteAt s 2 / 64) 1 && eqb (wordAt s 24 / 16) 0
 
--- the IP checksum is right once the total length is put back, which is the full header's own
+-- rules 5.2, 6.1: the IP checksum is right once the total length is put back, which is the full header's own
 abbrev pub checksumRight : List ℕ → Bool
 checksumRight s = eqb (wordAt s 10) (ipChecksumOf s (length s))
 
--- rule 3.3: 4, 6, 5, then 4 for its list, else 0. k: how many contexts there are
+-- rule 3.3: 4, 6, 5, 4; k: how many contexts there are
 unfoldable pub fhJudged : (k : ℕ) → List ℕ → ℕ
 fhJudged k s =
     cond (ltb (length s) 40) cut
@@ -43,6 +43,7 @@ fhJudged k s =
 
 ---- what it says
 
+-- rule 6.1
 unfoldable pub fhOf : List ℕ → FullHeader
 fhOf s = record {
   header = headerOf s;

@@ -10,6 +10,7 @@ use Rattle.headers.specs.Header.{headerSize}
 use Rattle.links_write.specs.Size.{cuSize, crSize}
 use Rattle.context.specs.Compressor.{fullHeader, compressedUdp, checksumSent, Going}
 
+-- rules 6.1 to 6.3
 abbrev pub sizeBy : (kind : ℕ) → Header → Going → ℕ
 sizeBy kind h a =
     cond (eqb kind fullHeader) (headerSize h)

@@ -17,6 +17,7 @@ inRange n k = leb n 14 && leb 1 k && leb k 64
 abbrev pub lengthAllowed : ℕ → Bool
 lengthAllowed n = leb 1 n && leb n 1500
 
+-- rules 1.3, 2.2
 abbrev pub sound : Settings → Bool
 sound s = inRange (s .repeats) (s .contexts)
 
@@ -34,7 +35,7 @@ accepted n k = record { number = 0; repeats = n; contexts = k }
 abbrev pub refused : ℕ → Opening
 refused number = record { number = number; repeats = 0; contexts = 0 }
 
--- rule 1.3: numbers in range are the settings, else 1
+-- rules 1.3, 3.1: an opening with numbers in range has them as its settings, any other is refused
 unfoldable pub openOf : (n k : ℕ) → Opening
 openOf n k = cond (inRange n k) (accepted n k) (refused unsound)
 
