@@ -15,7 +15,6 @@ use Rattle.codes.specs.Reading.{byteAt}
 use Rattle.packet.specs.declared.parts.Parts.{Parts}
 use Rattle.fields.specs.declared.place.Place.{Place}
 use Rattle.packet.specs.Ranges.{HeaderSound, PartsSound}
-use Rattle.fields.specs.Place.{stopped}
 use Rattle.headers.specs.Header.{headerSize}
 use Rattle.links.specs.declared.head.Head.{Head}
 use Rattle.links.specs.declared.head.ReadParts.{ReadParts}
@@ -175,7 +174,7 @@ module _ (t : Table) (i : ℕ) (sound : Sound t) (among : i < t .settings .conte
 
   -- o: what was found of the reading
   settleRead-way : (o : Verdict) (at : ℕ) (x : Effect) (sent : ℕ) (s : List ℕ) → soundDecompressor (x .context) ≡ true
-      → Way t i (λ output. settleRead (stopped at o) x t i sent s output)
+      → Way t i (λ output. settleRead (record { verdict = o; cursor = record { at = at } }) x t i sent s output)
   settleRead-way Accepted at x sent s e = settle-way x sent (drop at s) e
   settleRead-way (Refused r) at x sent s e = refuses t (numberOf r) (numberOf-least r) same (λ output. refl)
 

@@ -15,7 +15,7 @@ use Rattle.fields.specs.declared.place.Got8.{Got8}
 use Rattle.fields.specs.declared.place.Got16.{Got16}
 use Rattle.fields.specs.declared.place.Got32.{Got32}
 use Rattle.fields.specs.declared.place.GotList.{GotList}
-use Rattle.fields.specs.Place.{Step, step, passed, verdictOf, good, stopped, got8, got16, got32}
+use Rattle.fields.specs.Place.{Step, step, passed, good, stopped, got8, got16, got32}
 use Rattle.packet.specs.Refusal.{isAccepted}
 
 ---- one step
@@ -23,7 +23,7 @@ use Rattle.packet.specs.Refusal.{isAccepted}
 -- what is made of a reader's answer at p: the field and the place past it, or a refusal by the answer's number
 abbrev pub taken : Place → Reading → Step
 taken p r = cond (eqb (r .number) 0) (step (good (r .at)) true (r .value))
-    (passed (stopped (p .cursor .at) (verdictOf (r .number))))
+    (passed (stopped (p .cursor .at) (r .number)))
 
 -- rule 3.3: the field at p where it is wanted; p as it is where it is not, or where a field before it was refused
 unfoldable pub next : (ℕ → Reading) → Place → Bool → Step

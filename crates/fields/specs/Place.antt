@@ -1,27 +1,19 @@
 -- Iarwennol. A reading of optional fields from left to right: what has become of it, where it stands, and what one step gives.
 -- Used by the steps (Next) and by the readers of the link layouts (links).
 use Prim.Native.Nat.{ℕ}
-use mathlib.Core.Bool.{Bool, true, false, cond}
-use lib.Dec.{eqb}
-use Rattle.codes.specs.Numbers.{cut, forbidden}
-use Rattle.packet.specs.declared.refusal.Verdict.{Verdict}
-use Rattle.packet.specs.declared.refusal.Verdict.the-variants.{Accepted, Refused}
-use Rattle.packet.specs.declared.refusal.Refusal.the-variants.{Cut, Forbidden, UnusedCode}
+use mathlib.Core.Bool.{Bool, false}
+use Rattle.packet.specs.Refusal.{verdictOf}
 use Rattle.fields.specs.declared.place.Place.{Place}
 use Rattle.fields.specs.declared.place.Got8.{Got8}
 use Rattle.fields.specs.declared.place.Got16.{Got16}
 use Rattle.fields.specs.declared.place.Got32.{Got32}
 
--- rule 3.1: what a reader's answer with this number says of the field
-abbrev pub verdictOf : ℕ → Verdict
-verdictOf n = cond (eqb n 0) Accepted (Refused (cond (eqb n cut) Cut (cond (eqb n forbidden) Forbidden UnusedCode)))
-
--- a reading that stands at a place, and one that was refused there
-abbrev pub stopped : ℕ → Verdict → Place
-stopped at v = record { verdict = v; cursor = record { at = at } }
+-- a reading that stands at a place, with the number of the refusal there (rule 3.1), and one that was not refused
+abbrev pub stopped : (at number : ℕ) → Place
+stopped at number = record { verdict = verdictOf number; cursor = record { at = at } }
 
 abbrev pub good : ℕ → Place
-good at = stopped at Accepted
+good at = stopped at 0
 
 -- one step: where the reading stands then, whether the field was there, and its value, 0 where it was not
 pub record Step : Type 0 where

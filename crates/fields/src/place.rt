@@ -1,6 +1,6 @@
 ghost use mathlib.Core.Path.{_≡_};
 ghost use mathlib.Core.Bool.{true};
-ghost use Rattle.packet.specs.declared.refusal.Verdict.the-variants.{Refused};
+ghost use Rattle.packet.specs.Refusal.{numberOf};
 ghost use Rattle.fields.specs.Place.{good, stopped, step, passed, got8, got16, got32};
 use codes::cursor::Cursor;
 use packet::csrc::Csrc;
@@ -39,7 +39,7 @@ pub struct GotList {
 
 // A reading that was refused at a field.
 pub fn stop(cursor: Cursor, why: Refusal) -> Place
-    ensures { λ r. ⌜ r ≡ stopped (cursor .at) (Refused why) ⌝ }
+    ensures { λ r. ⌜ r ≡ stopped (cursor .at) (numberOf why) ⌝ }
 {
     Place {
         verdict: Verdict::Refused(why),

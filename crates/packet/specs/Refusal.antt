@@ -3,6 +3,7 @@
 -- Used by everything that judges, and by the answers of every call.
 use Prim.Native.Nat.{ℕ}
 use mathlib.Core.Bool.{Bool, true, false, cond}
+use mathlib.Core.List.{List, [], _∷_}
 use lib.Dec.{eqb}
 use Rattle.codes.specs.Numbers.{unsound, badLength, unknownType, cut, forbidden, noSuchContext, unusedCode}
 use Rattle.codes.specs.Numbers.{notLive, outOfStep, tooLong, noRoom}
@@ -30,6 +31,18 @@ numberOf NoRoom = noRoom
 abbrev pub verdictNumber : Verdict → ℕ
 verdictNumber Accepted = 0
 verdictNumber (Refused r) = numberOf r
+
+-- every refusal, and the verdict that has a number
+abbrev pub refusals : List Refusal
+refusals = Unsound ∷ BadLength ∷ UnknownType ∷ Cut ∷ Forbidden ∷ NoSuchContext ∷ UnusedCode ∷ NotLive ∷ OutOfStep ∷ TooLong
+    ∷ NoRoom ∷ []
+
+abbrev pub verdictAmong : List Refusal → ℕ → Verdict
+verdictAmong [] n = Accepted
+verdictAmong (r ∷ rs) n = cond (eqb (numberOf r) n) (Refused r) (verdictAmong rs n)
+
+abbrev pub verdictOf : ℕ → Verdict
+verdictOf n = verdictAmong refusals n
 
 abbrev pub isAccepted : Verdict → Bool
 isAccepted Accepted = true

@@ -9,7 +9,8 @@ use lib.Dec.{eqb}
 use Rattle.packet.specs.declared.refusal.Refusal.{Refusal}
 use Rattle.packet.specs.declared.refusal.Refusal.the-variants.{Unsound, BadLength, UnknownType, Cut, Forbidden, NoSuchContext}
 use Rattle.packet.specs.declared.refusal.Refusal.the-variants.{UnusedCode, NotLive, OutOfStep, TooLong, NoRoom}
-use Rattle.packet.specs.Refusal.{numberOf, firstRefusal}
+use Rattle.packet.specs.declared.refusal.Verdict.the-variants.{Refused}
+use Rattle.packet.specs.Refusal.{numberOf, verdictOf, firstRefusal}
 
 -- no refusal has the number of an acceptance
 pub numberOf-least : (r : Refusal) → 1 ≤ numberOf r
@@ -28,6 +29,20 @@ numberOf-least NoRoom = omega arith
 -- so a call that goes by the number takes it for a refusal
 pub numberOf-refused : (r : Refusal) → eqb (numberOf r) 0 ≡ false
 numberOf-refused r = ne-eqb (numberOf r) 0 (λ e. omega (arith, numberOf-least r))
+
+-- a refusal is told from its number
+pub verdictOf-numberOf : (r : Refusal) → verdictOf (numberOf r) ≡ Refused r
+verdictOf-numberOf Unsound = refl
+verdictOf-numberOf BadLength = refl
+verdictOf-numberOf UnknownType = refl
+verdictOf-numberOf Cut = refl
+verdictOf-numberOf Forbidden = refl
+verdictOf-numberOf NoSuchContext = refl
+verdictOf-numberOf UnusedCode = refl
+verdictOf-numberOf NotLive = refl
+verdictOf-numberOf OutOfStep = refl
+verdictOf-numberOf TooLong = refl
+verdictOf-numberOf NoRoom = refl
 
 first-by : (t : Bool) (a b : ℕ) → eqb a 0 ≡ t → cond t b a ≡ 0 → (a ≡ 0) × (b ≡ 0)
 first-by true a b t e = (eqb-true a 0 t, e)

@@ -5,15 +5,14 @@ use mathlib.Core.Path.{_≡_}
 use mathlib.Core.Bool.{true}
 use mathlib.Core.List.{List}
 use lib.ListN.{length}
+use Rattle.codes.specs.Numbers.{notLive}
 use Rattle.links.specs.declared.head.Head.{Head}
-use Rattle.packet.specs.declared.refusal.Refusal.the-variants.{NotLive}
 use Rattle.context.specs.Decompressor.{broke}
 use Rattle.context.specs.Sound.{soundDecompressor}
 use Rattle.context.specs.declared.decompressor.DecompressorContext.{DecompressorContext}
-use Rattle.decompressor.specs.declared.answer.Outcome.the-variants.{Refused}
 use Rattle.decompressor.specs.declared.table.Table.{Table}
 use Rattle.receive.specs.declared.settle.Taken.{Taken}
-use Rattle.decompressor.specs.Answer.{Result, numberOf, lengthOf}
+use Rattle.decompressor.specs.Answer.{Result, refused, numberOf, lengthOf}
 use Rattle.decompressor.specs.Table.{contextAt, withContext}
 
 -- what became of a packet, with the output that it left, and the context set into a table at place i
@@ -30,9 +29,9 @@ placed x t i output = record {
 pub record Takes (n : ℕ) (c : DecompressorContext) (x : Taken) (output : List ℕ) (f : Table → ℕ → Result) : Type 0 where
   pub anywhere : (t : Table) (i : ℕ) → t .settings .repeats ≡ n → contextAt t i ≡ c → placed x t i output ≡ f t i
 
--- rule 3.1: a context that is not live is left broken
-abbrev pub takenNotLive : DecompressorContext → Taken
-takenNotLive c = record { outcome = Refused NotLive; context = broke c }
+-- rule 3.1: a context that is not live is refused with 8 and left broken
+abbrev pub leftBroken : DecompressorContext → (output : List ℕ) → Table → (i : ℕ) → Result
+leftBroken c output t i = refused (withContext t i (broke c)) notLive output
 
 -- what is known once the flag byte h of the bytes s was read: n repeats, and the context c of a sound table
 pub record HeadRead (n : ℕ) (c : DecompressorContext) (h : Head) (s : List ℕ) : Type 0 where

@@ -20,7 +20,7 @@ use Rattle.links.specs.Cr.{crOf}
 use Rattle.links.specs.Whole.{wholeOf}
 use Rattle.packet.specs.Refusal as refusal
 use Rattle.packet.specs.declared.refusal.Refusal.{Refusal}
-use Rattle.packet.specs.declared.refusal.Refusal.the-variants.{NotLive, TooLong, NoRoom}
+use Rattle.packet.specs.declared.refusal.Refusal.the-variants.{TooLong, NoRoom}
 use Rattle.context.specs.Decompressor.{broke, rebuilt, Effect, applied, appliedWhole, checksumRead}
 use Rattle.context.specs.declared.decompressor.Status.{Status}
 use Rattle.context.specs.declared.decompressor.Status.the-variants.{Empty, Live, Broken}
@@ -35,7 +35,7 @@ use Rattle.decompressor.specs.Receive.{packetOf, rebuildTo, settleRead, receive
 use Rattle.decompressor.specs.Receive.{receiveRtp, receiveOn}
 use Rattle.decompressor.specs.declared.old.OldForm.{OldForm}
 use Rattle.decompressor.specs.declared.old.OldForm.the-variants as old
-use Rattle.receive.specs.Taken.{placed, Takes, HeadRead}
+use Rattle.receive.specs.Taken.{placed, Takes, leftBroken, HeadRead}
 
 ---- withContext
 
@@ -225,8 +225,9 @@ module _ (form : OldForm) (n kind : ℕ) (c : DecompressorContext) (h : Head) (s
   notLive-by Broken g t i = refl
   notLive-by Live g t i = absurd (false≢true g)
 
-  pub takes-notLive : notLive (c .status) ≡ true
-      → Takes n c (record { outcome = Refused NotLive; context = broke c }) output
-      (λ t i. receiveOn form (c .status) kind t i h s output)
-  takes-notLive g =
-      record { anywhere = λ t i e f. sym (notLive-by (c .status) g t i ∙ (λ j. refused (withContext t i (broke (f j))) 8 output)) }
+  pub takes-notLive : (x : Taken) → Takes n c x output (leftBroken c output) → notLive (c .status) ≡ true
+      → Takes n c x output (λ t i. receiveOn form (c .status) kind t i h s output)
+  takes-notLive x k g = record {
+    anywhere = λ t i e f. k .anywhere t i e f
+        ∙ sym (notLive-by (c .status) g t i ∙ (λ j. refused (withContext t i (broke (f j))) 8 output));
+  }

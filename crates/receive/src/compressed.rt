@@ -1,6 +1,7 @@
 ghost use mathlib.Core.Path.{_≡_};
 ghost use mathlib.Core.Bool.{true};
-ghost use Prim.Native.Nat.{_≤_, _<_};
+ghost use mathlib.Core.List.{List};
+ghost use Prim.Native.Nat.{ℕ, _≤_, _<_};
 ghost use lib.ListN.{length};
 ghost use Rattle.packet.specs.Ranges.{PartsSound};
 ghost use Rattle.context.specs.Sound.{soundDecompressor};
@@ -9,7 +10,7 @@ ghost use Rattle.decompressor.specs.Table.{Sound};
 ghost use Rattle.context.specs.declared.decompressor.Status.the-variants.{Live};
 ghost use Rattle.decompressor.specs.declared.old.OldForm.the-variants as oldform;
 ghost use Rattle.decompressor.specs.Receive.{receiveParts, receiveOld, receiveUdp, receiveRtp, receiveOn, receiveCompressed};
-ghost use Rattle.receive.specs.Taken.{Takes, takenNotLive, HeadRead};
+ghost use Rattle.receive.specs.Taken.{Takes, leftBroken, HeadRead};
 use crate::settle::Taken;
 use crate::settle::settle_read;
 use context::decompressor::DecompressorContext;
@@ -102,7 +103,7 @@ fn receive_rtp(n: u8, c: DecompressorContext, h: Head, s: &[u8], out: &mut [u8])
 
 // A context that is not live takes neither a CU nor a CR, and is left broken.
 fn refuse_not_live(c: DecompressorContext) -> Taken
-    ensures { λ r. ⌜ r ≡ takenNotLive c ⌝ }
+    ensures { λ r. ⌜ ((n : ℕ) (output : List ℕ) → Takes n c r output (leftBroken c output)) ⌝ }
 {
     Taken {
         outcome: Outcome::Refused(Refusal::NotLive),

@@ -38,8 +38,8 @@ refuse-not-live-requires-2 c κs = search needs
 
 returns-2 : tie.Need-returns-2
 returns-2 c = let a = c .before .before .before .before .before .args in
-    rw (c .refuse-not-live .ensures) (takes-notLive (a .old) (a .n) (a .kind) (a .c) (a .h) (a .s .now) (a .out .now)
-    (ap notLive (c .before .enum-told .given .1)))
+    takes-notLive (a .old) (a .n) (a .kind) (a .c) (a .h) (a .s .now) (a .out .now) (c .refuse-not-live .result)
+    (c .refuse-not-live .ensures (a .n) (a .out .now)) (ap notLive (c .before .enum-told .given .1))
 
 same-length-2 : tie.Need-same-length-2
 same-length-2 c = search needs
@@ -52,8 +52,8 @@ returns-3 c = let a = c .before .before .before .before .before .before .before 
 
 returns-4 : tie.Need-returns-4
 returns-4 c = let a = c .before .before .before .before .before .args in
-    rw (c .refuse-not-live2 .ensures) (takes-notLive (a .old) (a .n) (a .kind) (a .c) (a .h) (a .s .now) (a .out .now)
-    (ap notLive (c .before .enum-told3 .given .1)))
+    takes-notLive (a .old) (a .n) (a .kind) (a .c) (a .h) (a .s .now) (a .out .now) (c .refuse-not-live2 .result)
+    (c .refuse-not-live2 .ensures (a .n) (a .out .now)) (ap notLive (c .before .enum-told3 .given .1))
 
 pub receive-on-spec : {M : Type 1} → statement M
 receive-on-spec =
