@@ -1,5 +1,5 @@
 -- Iarwennol. The refusals, and what is found of a packet before its call answers.
--- The number of each (rule 3.1), said here and nowhere else.
+-- Which of the numbers (codes/specs/Numbers.antt) each case of the code has, and back.
 -- Used by everything that judges, and by the answers of every call.
 use Prim.Native.Nat.{ℕ}
 use mathlib.Core.Bool.{Bool, true, false, cond}
