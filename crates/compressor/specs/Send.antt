@@ -29,6 +29,7 @@ sentBytes i p h a = linkBytes i (length p) h a ++ drop (headerSize h) p
 abbrev pub sendStep : Table → (i : ℕ) → (p output : List ℕ) → Header → Going → Result
 sendStep t i p output h a = delivered t (withContext t i (a .context)) (a .kind) (sentBytes i p h a) output
 
+-- rules 5.5, 8: a compressible packet on the context at place i
 unfoldable pub sendAt : Table → (i : ℕ) → (p output : List ℕ) → Result
 sendAt t i p output = sendStep t i p output (headerOf p) (stepOn (t .settings .repeats) (headerOf p) (contextAt t i))
 

@@ -145,6 +145,7 @@ mayAdopt c = eqb (c .due .full) 0 && c .earlier .known
 abbrev pub repeatsId : Header → CompressorContext → Bool
 repeatsId h c = eqb (differences h c .id) (c .earlier .id)
 
+-- rule 8.6
 abbrev pub repeatsTimestamp : Header → CompressorContext → Bool
 repeatsTimestamp h c = eqb (differences h c .timestamp) (c .earlier .timestamp)
 
@@ -294,6 +295,7 @@ firstStep n h l = record {
 
 ---- number and values of each answer
 
+-- rule 1.1
 abbrev pub kindNumber : Kind → ℕ
 kindNumber FullHeader = fullHeader
 kindNumber CompressedUdp = compressedUdp

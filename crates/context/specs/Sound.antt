@@ -145,6 +145,7 @@ unfoldable pub soundCompressorBy : Usage → ℕ → CompressorContext → Bool
 soundCompressorBy usage.Empty n c = unusedSound c
 soundCompressorBy usage.Live n c = usedSound n c
 
+-- rules 2.3, 2.4
 unfoldable pub soundCompressor : ℕ → CompressorContext → Bool
 soundCompressor n c = soundCompressorBy (c .status) n c
 
@@ -177,6 +178,7 @@ soundDecompressorBy Empty c = not (c .filled) && unfilledSound c
 soundDecompressorBy Live c = c .filled && filledSound c
 soundDecompressorBy Broken c = cond (c .filled) (filledSound c) (unfilledSound c)
 
+-- rules 2.3, 2.4
 unfoldable pub soundDecompressor : DecompressorContext → Bool
 soundDecompressor c = soundDecompressorBy (c .status) c
 

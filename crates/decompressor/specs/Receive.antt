@@ -81,6 +81,7 @@ settleRead p e t i sent s output =
     cond (isAccepted (p .verdict)) (settle e t i sent (drop (p .cursor .at) s) output)
     (refused t (verdictNumber (p .verdict)) output)
 
+-- rules 7.2 to 7.6: a CR, or a CU with F, that was read
 abbrev pub receiveParts : ReadParts → Table → (i q : ℕ) → (s output : List ℕ) → Result
 receiveParts r t i q s output = settleRead (r .place) (applied (t .settings .repeats) q (contextAt t i) (r .parts)) t i
     (r .parts .checksum) s output

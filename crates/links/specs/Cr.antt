@@ -72,6 +72,7 @@ unfoldable pub secondWith : Bool → CrFlags → (g : Flags) → Place → Secon
 secondWith true f g p = record { place = p; listed = true; flags = crFlagsOf g; count = g .low }
 secondWith false f g p = record { place = p; listed = false; flags = f; count = 0 }
 
+-- rule 6.2
 unfoldable pub secondOf : List ℕ → Place → CrFlags → Second
 secondOf s p f =
     let second : Got8 = nextByte s p (allFour f) in

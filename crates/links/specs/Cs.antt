@@ -76,6 +76,7 @@ bitsForbidden f generation = f .zero1 || f .zero2 || f .zero3 || not (eqb (gener
 unfoldable pub recordWith : (k context : ℕ) → RecordFlags → (generation : ℕ) → ℕ
 recordWith k context f generation = cond (leb k context) noSuchContext (cond (bitsForbidden f generation) forbidden 0)
 
+-- rule 9.2: record i
 unfoldable pub recordJudged : (k : ℕ) → List ℕ → ℕ → ℕ
 recordJudged k s i = recordWith k (recordContext s i) (recordFlagsAt s i) (byteAt s (recordAt i + 2))
 

@@ -30,5 +30,6 @@ contextOf s = contextField s .field .value
 abbrev pub headAt : List ℕ → Place → Head
 headAt s p = let flags : Got8 = nextByte s p true in record { place = flags .place; flags = flagsOf (flags .field .value) }
 
+-- rules 6.2, 6.3
 unfoldable pub headOf : List ℕ → Head
 headOf s = headAt s (contextField s .place)

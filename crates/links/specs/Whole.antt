@@ -82,6 +82,7 @@ rtpHeader x f l = record {
 unfoldable pub rtpRest : List ℕ → Fixed → RtpFirst → GotRtp
 rtpRest s x f = rtpHeader x f (nextList s (x .place) (f .count))
 
+-- rule 6.3
 unfoldable pub rtpOf : List ℕ → Place → GotRtp
 rtpOf s p = let fixed : Fixed = fixedOf s p in rtpRest s fixed (rtpFirstOf (fixed .first))
 

@@ -18,6 +18,7 @@ abbrev pub stepBy : Usage → (n : ℕ) → Header → CompressorContext → Goi
 stepBy Empty n h c = firstStep n h (record { sequence = 0; generation = 0 })
 stepBy Live n h c = stepOf n h c
 
+-- rules 8.1 to 8.8
 unfoldable pub stepOn : (n : ℕ) → Header → CompressorContext → Going
 stepOn n h c = stepBy (c .status) n h c
 
@@ -28,5 +29,6 @@ linkBy kind i total h a =
     (cond (eqb kind compressedUdp) (cuBytes i (a .link .sequence) (checksumSent (a .context)) (a .parts))
     (crBytes i (a .link .sequence) (checksumSent (a .context)) (a .parts)))
 
+-- rules 6.1 to 6.3: by the step's own type
 unfoldable pub linkBytes : (i total : ℕ) → Header → Going → List ℕ
 linkBytes i total h a = linkBy (a .kind) i total h a

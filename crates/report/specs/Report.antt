@@ -17,6 +17,7 @@ brokenBy Empty = false
 brokenBy Live = false
 brokenBy Broken = true
 
+-- rule 9.1
 abbrev pub isBroken : DecompressorContext → Bool
 isBroken c = brokenBy (c .status)
 
@@ -38,6 +39,7 @@ abbrev pub reportOn : List State → List ℕ
 reportOn [] = []
 reportOn (r ∷ rs) = csBytes (r ∷ rs)
 
+-- rule 9.1
 abbrev pub reportBytes : Table → List ℕ
 reportBytes t = reportOn (statesFrom 0 (t .contexts))
 

@@ -32,6 +32,7 @@ pub record Opening : Type 0 where
 abbrev pub accepted : (n k : ℕ) → Opening
 accepted n k = record { number = 0; repeats = n; contexts = k }
 
+-- rule 3.1
 abbrev pub refused : ℕ → Opening
 refused number = record { number = number; repeats = 0; contexts = 0 }
 
