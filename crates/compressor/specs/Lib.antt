@@ -13,3 +13,4 @@ pub mod FullLaws
 pub mod SoundLaws
 pub mod Request
 pub mod RequestLaws
+pub mod TypeLaws

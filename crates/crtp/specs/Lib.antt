@@ -1,3 +1,4 @@
+pub mod Face
 pub mod Robust
 pub mod Alike
 pub mod Example

@@ -1,0 +1,26 @@
+-- Iarwennol. What a crate above may rely on: the definitions that the contracts of the calls cite, and laws of them.
+-- The definitions are passed on shut: whoever has them from here can cite a call's result and not look into it.
+pub use Rattle.codes.specs.Numbers.{unsound}
+pub use Rattle.packet.specs.Types.{plain, fullHeader, compressedUdp, compressedRtp}
+pub use Rattle.packet.specs.declared.refusal.Refusal.{Refusal}
+pub use Rattle.packet.specs.Refusal.{numberOf as refusalNumber, firstRefusal}
+pub use Rattle.packet.specs.RefusalLaws.{numberOf-refused as refusalNumber-refused, firstRefusal-accepted}
+pub use Rattle.settings.specs.declared.Settings.{Settings}
+-- the compressor's calls
+pub use Rattle.compressor.specs.declared.table.Table.{Table as CompressorTable}
+pub use Rattle.compressor.specs.declared.answer.Outcome.{Outcome as CompressorOutcome}
+pub use Rattle.compressor.specs.declared.answer.Answer.{Answer as CompressorAnswer}
+pub use Rattle.compressor.specs.Answer as sending
+pub use Rattle.compressor.specs.Table.{unopened as noCompressor, openOf as openCompressorOf}
+pub use Rattle.compressor.specs.Send.{sendOf}
+pub use Rattle.compressor.specs.Request.{requestOf}
+pub use Rattle.compressor.specs.TypeLaws.{sendOf-type}
+-- the decompressor's
+pub use Rattle.decompressor.specs.declared.table.Table.{Table as DecompressorTable}
+pub use Rattle.decompressor.specs.declared.answer.Outcome.{Outcome as DecompressorOutcome}
+pub use Rattle.decompressor.specs.declared.answer.Answer.{Answer as DecompressorAnswer}
+pub use Rattle.decompressor.specs.Answer as receiving
+pub use Rattle.decompressor.specs.Table.{unopened as noDecompressor, openOf as openDecompressorOf}
+pub use Rattle.decompressor.specs.Receive.{receiveOf}
+pub use Rattle.report.specs.Report.{reportOf}
+pub use Rattle.report.specs.ReportLaws.{table-reportOf}

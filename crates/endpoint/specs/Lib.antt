@@ -1,0 +1,4 @@
+pub mod Totals
+pub mod Answer
+pub mod Outcomes
+pub mod Calls

@@ -1,0 +1,92 @@
+ghost use mathlib.Core.Path.{_≡_};
+ghost use mathlib.Core.Bool.{not};
+ghost use lib.Dec.{eqb};
+ghost use Rattle.crtp.specs.Face.{refusalNumber, unsound};
+ghost use Rattle.endpoint.specs.Totals.{noTotals, more, sent, rebuilt, refused, tallied};
+use crtp::Refusal;
+
+// What an endpoint did since it was opened: packets that it sent plain, as FULL_HEADER, COMPRESSED_UDP and COMPRESSED_RTP; packets
+// that it rebuilt, plain ones too; calls that it refused, but for those that found a table unsound.
+pub struct Totals {
+    pub plain: u32,
+    pub full: u32,
+    pub udp: u32,
+    pub rtp: u32,
+    pub rebuilt: u32,
+    pub refused: u32,
+}
+
+impl Totals {
+    // Where a total stops.
+    pub const LAST: u32 = 4_294_967_295;
+}
+
+pub fn nothing() -> Totals
+    ensures { λ r. ⌜ r ≡ noTotals ⌝ }
+{
+    Totals {
+        plain: 0,
+        full: 0,
+        udp: 0,
+        rtp: 0,
+        rebuilt: 0,
+        refused: 0,
+    }
+}
+
+// A total, where something counts in it or does not.
+fn count(counts: bool, n: u32) -> u32
+    ensures { λ r. ⌜ r ≡ more counts n ⌝ }
+{
+    if counts & (n < Totals::LAST) {
+        return n + 1;
+    }
+    n
+}
+
+pub fn with_sent(t: Totals, kind: u8) -> Totals
+    ensures { λ r. ⌜ r ≡ tallied t (sent kind) ⌝ }
+{
+    Totals {
+        plain: count(kind == 0, t.plain),
+        full: count(kind == 1, t.full),
+        udp: count(kind == 2, t.udp),
+        rtp: count(kind == 3, t.rtp),
+        rebuilt: t.rebuilt,
+        refused: t.refused,
+    }
+}
+
+pub fn with_rebuilt(t: Totals) -> Totals
+    ensures { λ r. ⌜ r ≡ tallied t rebuilt ⌝ }
+{
+    let mut next = t;
+    next.rebuilt = count(true, t.rebuilt);
+    next
+}
+
+fn is_counted(r: Refusal) -> bool
+    ensures { λ b. ⌜ b ≡ not (eqb (refusalNumber r) unsound) ⌝ }
+{
+    match r {
+        Refusal::Unsound => false,
+        Refusal::BadLength => true,
+        Refusal::UnknownType => true,
+        Refusal::Cut => true,
+        Refusal::Forbidden => true,
+        Refusal::NoSuchContext => true,
+        Refusal::UnusedCode => true,
+        Refusal::NotLive => true,
+        Refusal::OutOfStep => true,
+        Refusal::TooLong => true,
+        Refusal::NoRoom => true,
+    }
+}
+
+pub fn with_refused(t: Totals, r: Refusal) -> Totals
+    ensures { λ a. ⌜ a ≡ tallied t (refused (refusalNumber r)) ⌝ }
+{
+    let mut next = t;
+    next.refused = count(is_counted(r), t.refused);
+    next
+}
