@@ -5,6 +5,7 @@ pub mod bytes;
 pub mod codes;
 pub mod compressor;
 pub mod decompressor;
+pub mod endpoint;
 pub mod flows;
 pub mod forge;
 pub mod generate;
@@ -19,6 +20,7 @@ pub const PLAIN: u32 = 0;
 pub const FULL_HEADER: u32 = 1;
 pub const COMPRESSED_UDP: u32 = 2;
 pub const COMPRESSED_RTP: u32 = 3;
+pub const CONTEXT_STATE: u32 = 4;
 
 /// Places in a table; only the first K are ever used.
 pub const PLACES: usize = 64;
