@@ -91,6 +91,115 @@ fn worked_transcript() {
     );
 }
 
+/// The endpoint's lines, with the packet and the answers of the transcript above.
+#[test]
+fn worked_endpoint_transcript() {
+    transcript(
+        "bt
+         6*0
+         bw 45 10
+         1 0 0 -
+         br 4 0101008000 10
+         1 0 -
+         br 5 - 0
+         1 0 -
+         bp 10
+         1 0 -
+         bo 0 0
+         1
+         wt 5 9
+         ok
+         bo 15 1
+         1
+         bt
+         5*0 9
+         bo 0 2
+         0
+         bt
+         6*0
+         bw 4500002a00014000401126c00a0000010a000002138c138e001600008000000100000000000000ffda7a 42
+         0 1 42 4500400000014000401126c00a0000010a000002138c138e000000008000000100000000000000ffda7a
+         br 1 4500400000014000401126c00a0000010a000002138c138e000000008000000100000000000000ffda7a 50
+         0 42 4500002a00014000401126c00a0000010a000002138c138e001600008000000100000000000000ffda7a
+         br 3 0001da7a 41
+         11 0 -
+         br 3 0001da7a 42
+         0 42 4500002a00024000401126bf0a0000010a000002138c138e001600008000000200000000000000ffda7a
+         br 4294967295 - 0
+         3 0 -
+         br 3 0100 9
+         8 0 -
+         bt
+         0 1 0 0 2 3
+         bp 5
+         0 5 0101018000
+         bp 4
+         11 0 -
+         br 4 0101008000 0
+         0 0 -
+         br 4 0101028000 4096
+         6 0 -
+         br 5 0101008000 7
+         3 0 -
+         bt
+         0 1 0 0 2 6
+         bw 4500002a00024000401126bf0a0000010a000002138c138e001600008000000200000000000000ffda7a 42
+         0 1 42 4500410000024000401126bf0a0000010a000002138c138e000100008000000200000000000000ffda7a
+         bw 4500002a00034000401126be0a0000010a000002138c138e001600008000000300000000000000ffda7a 4
+         0 3 4 0002da7a
+         bw - 4
+         2 0 0 -
+         br 0 45 1
+         0 1 45
+         bw 45 1
+         0 0 1 45
+         bt
+         1 2 0 1 3 7
+         wt 0 4294967294
+         ok
+         wt 3 4294967295
+         ok
+         wt 4 4294967295
+         ok
+         bw 45 1
+         0 0 1 45
+         bw 45 1
+         0 0 1 45
+         bw 4500002a00044000401126bd0a0000010a000002138c138e001600008000000400000000000000ffda7a 42
+         0 3 4 0003da7a
+         br 0 45 1
+         0 1 45
+         bt
+         4294967295 2 0 4294967295 4294967295 7
+         ds 0
+         49*0
+         dr 0
+         40*0
+         s 45 10
+         1 0 0 -
+         p 10
+         1 0 -
+         os 3 4
+         0
+         or 5 6
+         0
+         ws k 0 65
+         ok
+         bw 45 1
+         0 0 1 45
+         bt
+         4294967295 2 0 4294967295 4294967295 7
+         bo 14 64
+         0
+         bt
+         6*0
+         ds 63
+         3 65 47*0
+         dr 0
+         5 6 38*0",
+    );
+}
+
 #[test]
 fn lines_that_are_no_calls() {
     let mut runner = Runner::default();
@@ -131,12 +240,60 @@ fn lines_that_are_no_calls() {
         "ws n 1 1",
         "s 45 1 ",
         "x",
+        "bo",
+        "bo 1",
+        "bo 1 2 3",
+        "bo 1 4294967296",
+        "bo -1 2",
+        "bw",
+        "bw 45",
+        "bw 45 4097",
+        "bw 4 1",
+        "bw 4A 1",
+        "bw 45 1 1",
+        "br 45 1",
+        "br 4 - 4097",
+        "br 4294967296 - 1",
+        "br 4 - 1 1",
+        "br 4 0101008000",
+        "bp",
+        "bp 4097",
+        "bp -",
+        "bp 1 1",
+        "bt ",
+        "bt 0",
+        "wt",
+        "wt 0",
+        "wt 6 1",
+        "wt 4294967296 1",
+        "wt 0 4294967296",
+        "wt 0 -1",
+        "wt plain 1",
+        "wt 0 1 1",
+        "b",
+        "BT",
+        "wb 0 1",
     ] {
         assert_eq!(answer(&mut runner, line), "?", "line {line:?}");
     }
     // None of them changed anything.
     let zeros = vec!["0"; 49].join(" ");
     assert_eq!(answer(&mut runner, "ds 0"), zeros);
+    assert_eq!(answer(&mut runner, "bt"), "0 0 0 0 0 0");
+}
+
+/// Each total can be written and shows up in its own place, and only there.
+#[test]
+fn totals_by_place() {
+    for place in 0..6 {
+        for value in ["1", "4294967295"] {
+            let mut runner = Runner::default();
+            assert_eq!(answer(&mut runner, &format!("wt {place} {value}")), "ok");
+            let mut wanted = ["0"; 6];
+            wanted[place] = value;
+            assert_eq!(answer(&mut runner, "bt"), wanted.join(" "));
+        }
+    }
 }
 
 /// Every field can be written and shows up in its own place, and only there.
