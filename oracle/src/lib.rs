@@ -9,6 +9,7 @@ pub mod endpoint;
 pub mod flows;
 pub mod forge;
 pub mod generate;
+pub mod generate_endpoint;
 pub mod header;
 pub mod mutant;
 pub mod prng;
