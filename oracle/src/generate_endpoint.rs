@@ -286,9 +286,14 @@ impl Generator {
         self.last_arrival = Some((link_type, bytes));
     }
 
-    /// The report goes to the peer, unless it is lost.
+    /// The report goes to the peer, unless it is lost or finds too little room. Only now, with something
+    /// broken, can a report be refused.
     fn plan_recovery(&mut self) {
         let report = report_now(&self.runner.endpoint.decompressor);
+        if self.prng.chance(1, 4) {
+            let room = self.prng.below(report.len());
+            return self.push(format!("bp {room}"));
+        }
         self.push("bp 200".to_string());
         if self.prng.chance(4, 5) {
             self.out.in_flight.push_back((CONTEXT_STATE, report));
