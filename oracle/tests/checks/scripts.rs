@@ -705,7 +705,7 @@ fn generated_endpoint_scripts_agree_with_themselves() {
         for number in wanted {
             let name = format!("{call} {number}");
             assert!(
-                numbers.get(&name).is_some_and(|&count| count >= 5),
+                numbers.get(&name).is_some_and(|&count| count >= 10),
                 "{name} is rare"
             );
         }
