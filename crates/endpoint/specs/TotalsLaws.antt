@@ -1,0 +1,61 @@
+-- Iarwennol. Laws of the totals: what one call does to them, whatever they are. Assume nothing.
+-- Used by the theorem on histories.
+use Prim.Native.Nat.{ℕ, suc, _+_, _≤_, _<_}
+use mathlib.Core.Path.{_≡_, refl}
+use mathlib.Core.Bool.{Bool, true, false, cond}
+use mathlib.Core.List.{List}
+use native.Mathlib.Omega.{arith}
+use native.Mathlib.Decide.{decLe}
+use borrow.Author.Tests.{le-leb, leb-true, lt-ltb, le-ltb}
+use lib.Dec.{eqb, leb}
+use Rattle.crtp.specs.Face as crtp
+use Rattle.crtp.specs.Face.{receiveOf, requestOf}
+use Rattle.endpoint.specs.declared.answer.Endpoint.{Endpoint}
+use Rattle.endpoint.specs.Totals.{rebuilt, quiet, last, more, tallied}
+use Rattle.endpoint.specs.Calls.{judged, contextState, requestedBy, answeredBy, wireOf, radioOf, reportOf}
+use Rattle.endpoint.specs.History.{Call, wire, radio, report, answer, eventOf, stopped}
+
+---- one total
+
+pub stopped-below : (n : ℕ) → n ≤ last → stopped n ≡ n
+stopped-below n h = rw (le-leb n last h)
+
+pub stopped-above : (n : ℕ) → last ≤ n → stopped n ≡ last
+stopped-above n h = by (leb n last) refl
+  where
+    by : (b : Bool) → leb n last ≡ b → cond b n last ≡ last
+    by true e = omega (arith, leb-true n last e)
+    by false e = refl
+
+more-below : (n : ℕ) → n < last → more true n ≡ suc n
+more-below n h = rw (lt-ltb n last h)
+
+more-above : (n : ℕ) → last ≤ n → more true n ≡ n
+more-above n h = rw (le-ltb n last h)
+
+-- one more where it counts, but never past the last
+pub more-stopped : (counts : Bool) (n : ℕ) → n ≤ last → more counts n ≡ stopped (cond counts 1 0 + n)
+more-stopped false n h = omega (arith, stopped-below (0 + n) (omega arith))
+more-stopped true n h = by (decLe (suc n) last)
+  where
+    by : Dec (suc n ≤ last) → more true n ≡ stopped (1 + n)
+    by (yes g) = omega (arith, more-below n g, stopped-below (1 + n) (omega arith))
+    by (no g) = omega (arith, more-above n (omega arith), stopped-above (1 + n) (omega arith))
+
+---- one call, from any totals
+
+module _ (e : Endpoint) where
+  radio-by : (b : Bool) (r : crtp.sending.Result) (s : crtp.receiving.Result) (output : List ℕ)
+      → cond b (requestedBy e output r) (answeredBy rebuilt e s) .endpoint .totals
+      ≡ tallied (e .totals) (judged (cond b (requestedBy e output r) (answeredBy rebuilt e s) .number) (cond b quiet rebuilt))
+  radio-by true r s output = refl
+  radio-by false r s output = refl
+
+  -- the totals after a call are those before it and what the call came to
+  pub totals-call : (x : Call) → answer e x .endpoint .totals ≡ tallied (e .totals) (eventOf x (answer e x))
+  unfolding wireOf radioOf reportOf
+  totals-call (wire p output) = refl
+  totals-call (radio kind s output) =
+      radio-by (eqb kind contextState) (requestOf (e .compressor) (s .list))
+      (receiveOf (e .decompressor) kind (s .list) (output .list)) (output .list)
+  totals-call (report output) = refl
