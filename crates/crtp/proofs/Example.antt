@@ -43,33 +43,41 @@ use Rattle.packet.specs.Csrc.{sameList}
 use Rattle.crtp.specs.Robust.{Bytes, Call, send, request, arrival, other, World, Sent, after, Ordered, losses, Bounded}
 use Rattle.crtp.specs.Robust.{Opened, Premises}
 use Rattle.crtp.proofs.Calm.{bounded-calm}
-use Rattle.crtp.specs.Example.{packet0, packet1, packet2, packet3, packet4, packet5, odd, asks, Shown, answers}
+use Rattle.crtp.specs.Example.{packet0, packet1, packet2, packet3, packet4, packet5, odd, asks, asksFirst, Shown, answers}
 
-abbrev bytes : (l : List ℕ) → areBytes l ≡ true → Bytes
+abbrev pub bytes : (l : List ℕ) → areBytes l ≡ true → Bytes
 bytes l e = record { list = l; small = allBytes-areBytes l e }
 
-abbrev wide : Bytes
+abbrev pub wide : Bytes
 wide = bytes (replicate 44 0xAA) refl
 
-abbrev narrow : Bytes
+abbrev pub narrow : Bytes
 narrow = bytes (replicate 10 0xAA) refl
 
-abbrev chosen : Settings
+abbrev pub chosen : Settings
 chosen = record { repeats = 1; contexts = 2 }
 
-abbrev start : World
+abbrev pub start : World
 start = record { compressor = compressing.emptyTable chosen; decompressor = decompressing.emptyTable chosen; sent = [] }
 
-abbrev list : List Call
+-- calls that leave both tables stand between
+abbrev pub list : List Call
 list =
     send (bytes packet0 refl) wide
+    ∷ other
     ∷ send (bytes packet1 refl) wide
+    ∷ other
     ∷ arrival 1 wide
+    ∷ other
     ∷ send (bytes packet2 refl) wide
     ∷ send (bytes packet3 refl) wide
     ∷ request (bytes asks refl)
     ∷ send (bytes packet4 refl) wide
     ∷ arrival 3 wide
+    ∷ other
+    ∷ other
+    ∷ other
+    ∷ other
     ∷ arrival 4 narrow
     ∷ send (bytes packet5 refl) wide
     ∷ other
@@ -78,7 +86,29 @@ list =
     ∷ arrival 6 wide
     ∷ []
 
-abbrev shown : ℕ → List ℕ → Shown
+-- of four packets only the last one arrives
+abbrev pub missed : List Call
+missed =
+    other
+    ∷ send (bytes packet0 refl) wide
+    ∷ other
+    ∷ send (bytes packet1 refl) wide
+    ∷ other
+    ∷ send (bytes packet2 refl) wide
+    ∷ other
+    ∷ other
+    ∷ other
+    ∷ other
+    ∷ other
+    ∷ send (bytes packet3 refl) wide
+    ∷ arrival 3 wide
+    ∷ other
+    ∷ request (bytes asksFirst refl)
+    ∷ other
+    ∷ other
+    ∷ []
+
+abbrev pub shown : ℕ → List ℕ → Shown
 shown n b = record { number = n; bytes = b }
 
 -- the types of what was given out: two full headers, two CU, two full headers by request, one plain packet
@@ -86,15 +116,18 @@ abbrev kinds : List Sent → List ℕ
 kinds [] = []
 kinds (e ∷ es) = e .kind ∷ kinds es
 
--- what is computed of the list: its answers, those types, what is lost on context 0 and on another; and its arrivals are in order
-record Computed : Type 0 where
+-- what is computed of the first list: its answers, those types, what is lost on context 0 and on another; and its arrivals are in order.
+-- Of the other: its answer, and what is lost
+pub record Computed : Type 0 where
   answered : answers start list ≡ shown 0 packet1 ∷ shown 0 packet3 ∷ shown 11 [] ∷ shown 0 packet5 ∷ shown 0 odd ∷ []
   given : kinds (after start list .sent) ≡ 1 ∷ 1 ∷ 2 ∷ 2 ∷ 1 ∷ 1 ∷ 0 ∷ []
   on : losses 0 list 0 (after start list .sent) ≡ true ∷ false ∷ true ∷ false ∷ true ∷ false ∷ []
   off : (c : ℕ) → eqb 0 c ≡ false → losses c list 0 (after start list .sent) ≡ []
   ordered : Ordered start 0 list
+  pub refused : answers start missed ≡ shown 8 [] ∷ []
+  gone : losses 0 missed 0 (after start missed .sent) ≡ true ∷ true ∷ true ∷ false ∷ []
 
-computed : Computed
+pub computed : Computed
 unfolding compressing.soundOf decompressing.soundOf plus codeOf difference sum hasCode readByte readWord readLong readBy placeOf
     requestOf stepOn linkBytes sendAt sendOf first started sameConstants begun startedUnlessDue requested reset adoptsId
     adoptsTimestamp judged dueNow anyDue kindOf listIf partsOf dueAfter deltasAfter moved sentWith stepOf firstStep filled
@@ -111,6 +144,8 @@ computed = record {
   on = refl;
   off = λ c e. rw e;
   ordered = (lit≤ tt, lit≤ tt, (lit≤ tt, lit≤ tt, (lit≤ tt, lit≤ tt, (lit≤ tt, lit≤ tt, (lit≤ tt, lit≤ tt, tt)))));
+  refused = refl;
+  gone = refl;
 }
 
 ---- The premises
@@ -120,7 +155,7 @@ bounded-by c true e =
     rw (← eqb-true 0 c e, computed .on) (bounded-calm 1 (true ∷ false ∷ true ∷ false ∷ true ∷ false ∷ []) refl)
 bounded-by c false e = rw (computed .off c e) (bounded-calm 1 [] refl)
 
-opened : Opened chosen start
+pub opened : Opened chosen start
 unfolding compressing.openOf decompressing.openOf settings.openOf
 opened = record {
   earlierC = start .compressor;
@@ -132,5 +167,9 @@ opened = record {
   nothing = refl;
 }
 
-premises : Premises chosen start list
+pub premises : Premises chosen start list
 premises = record { opened = opened; ordered = computed .ordered; bounded = λ c. bounded-by c (eqb 0 c) refl }
+
+-- the other list loses more than it may
+pub too-many : Bounded 1 (losses 0 missed 0 (after start missed .sent)) → ⊥
+too-many b = b [] (true ∷ false ∷ []) (computed .gone)

@@ -9,4 +9,4 @@ pub mod FullHeader
 pub mod Robust
 pub mod Alike
 mod Calm
-mod Example
+pub mod Example

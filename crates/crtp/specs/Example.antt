@@ -1,5 +1,6 @@
 -- Iarwennol. The premises of robustness can be met: one list of calls, with its answers computed. N 1, K 2.
 -- A full header is lost, a CU is lost, an arrival has no room, a request stands between, an arrival is late, a plain packet goes.
+-- And they can be missed: in another list the first three packets are lost, and the next arrival is refused.
 -- Used by proofs/Example.antt, which shows all of it.
 use Prim.Native.Nat.{ℕ}
 use mathlib.Core.List.{List, [], _∷_}
@@ -39,6 +40,10 @@ odd = 0x00 ∷ []
 -- context-state request for context 0, last link sequence 3, generation 0
 abbrev pub asks : List ℕ
 asks = 0x01 ∷ 0x01 ∷ 0x00 ∷ 0x83 ∷ 0x00 ∷ []
+
+-- the same for a context that was never filled
+abbrev pub asksFirst : List ℕ
+asksFirst = 0x01 ∷ 0x01 ∷ 0x00 ∷ 0x80 ∷ 0x00 ∷ []
 
 ---- What an arrival answers: number, length, and so many bytes of output
 

@@ -26,7 +26,7 @@ use Rattle.endpoint.specs.Facing.{Opened, Premises, Facing}
 
 ---- What was given out has a link type of a packet's
 
-abbrev Typed : List Sent → Type 0
+abbrev pub Typed : List Sent → Type 0
 Typed [] = Unit {0}
 Typed (e ∷ es) = (e .kind ≤ compressedRtp) × Typed es
 
@@ -54,7 +54,7 @@ typed-after e es (one.wire p output) t =
 typed-after e es (one.radio kind s output) t = t
 typed-after e es (one.report output) t = t
 
-abbrev AllTyped : World → Type 0
+abbrev pub AllTyped : World → Type 0
 AllTyped w = (s : Side) → Typed (w s .sent)
 
 typed-with : (w : World) (s : Side) (h : Half) → Typed (h .sent) → AllTyped w → AllTyped (with w s h)
@@ -63,7 +63,7 @@ typed-with w near h t a far = a far
 typed-with w far h t a near = a near
 typed-with w far h t a far = t
 
-typed-step : (w : World) (x : Call) → AllTyped w → AllTyped (step w x)
+pub typed-step : (w : World) (x : Call) → AllTyped w → AllTyped (step w x)
 typed-step w (at s x) a = typed-with w s _ (typed-after (w s .endpoint) (w s .sent) x (a s)) a
 typed-step w (arrival s i output) a = typed-with w s _ (a s) a
 
@@ -117,7 +117,7 @@ keeps e (one.report output) h = table-reportOf (e .decompressor) (output .list)
 
 module _ (w : World) (typed : AllTyped w) where
   -- an arrival at a side goes to its decompressor
-  arrival-rebuilds : (s : Side) (i : ℕ) (output : Bytes)
+  pub arrival-rebuilds : (s : Side) (i : ℕ) (output : Bytes)
       → answer w s i output
       ≡ answeredBy rebuilt (w s .endpoint)
       (receiveOf (w s .endpoint .decompressor) (sentAt w (across s) i .kind) (sentAt w (across s) i .bytes) (output .list))
@@ -148,7 +148,7 @@ module _ (w : World) (typed : AllTyped w) where
   view-step far (arrival far i output) h =
       λ j. link (arrival-leaves far i output j) (w far .sent) (w near .endpoint .decompressor)
 
-view-after : (d : Side) (xs : List Call) (w : World) → AllTyped w → AllProper d xs
+pub view-after : (d : Side) (xs : List Call) (w : World) → AllTyped w → AllProper d xs
     → crtp.after (view d w) (map (seen d) xs) ≡ view d (after w xs)
 view-after d [] w t p = refl
 view-after d (x ∷ xs) w t p =
@@ -224,7 +224,7 @@ module _ (s : Settings) (w : World) (o : Opened s w) where
         nothing = o .nothing d;
       }
 
-  none-typed : AllTyped w
+  pub none-typed : AllTyped w
   none-typed x = subst Typed (sym (o .nothing x)) tt
 
 pub facing : Facing

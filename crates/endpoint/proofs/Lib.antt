@@ -1,3 +1,5 @@
-pub mod Answers
+-- Iarwennol. What the proofs of the calls cite, and the theorems on histories and on two endpoints that face each other.
+mod Answers
 pub mod History
 pub mod Facing
+mod Example
