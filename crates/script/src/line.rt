@@ -1,15 +1,17 @@
 ghost use mathlib.Core.Path.{_≡_};
 use crtp::CompressorTable;
 use crtp::DecompressorTable;
+use endpoint::Endpoint;
 use script_text::word::Word;
 use script_text::word::first_word;
 
-// Both ends' tables, and how far a run has come.
+// Both ends' tables, an endpoint with tables of its own, and how far a run has come.
 //
 // at: how far the text of answers is filled. start: where the next line begins in what was read. filled: how much was read.
 pub struct State {
     pub compressor: CompressorTable,
     pub decompressor: DecompressorTable,
+    pub endpoint: Endpoint,
     pub at: usize,
     pub start: usize,
     pub filled: usize,
@@ -22,6 +24,7 @@ pub fn unopened() -> State
     State {
         compressor: crtp::no_compressor(),
         decompressor: crtp::no_decompressor(),
+        endpoint: endpoint::closed(),
         at: 0,
         start: 0,
         filled: 0,
@@ -46,11 +49,23 @@ fn run_decompressor(s: State, line: &[u8], w: Word, text: &mut [u8]) -> State {
     next
 }
 
+fn run_endpoint(s: State, line: &[u8], w: Word, text: &mut [u8]) -> State {
+    let mut next = s;
+    let r = script_endpoint::line::run_line(next.endpoint, line, w, text, next.at);
+    let after = r.endpoint;
+    next.endpoint = after;
+    next.at = r.at;
+    next
+}
+
 // One line without its line end.
 pub fn run_line(s: State, line: &[u8], text: &mut [u8]) -> State {
     let w = first_word(line);
     if script_compressor::call::is_name(line, w) {
         return run_compressor(s, line, w, text);
+    }
+    if script_endpoint::call::is_name(line, w) {
+        return run_endpoint(s, line, w, text);
     }
     run_decompressor(s, line, w, text)
 }

@@ -6,13 +6,13 @@ use script_text::number::Number;
 use script_text::number::Pair;
 use script_text::number::last_number;
 use script_text::number::last_pair;
-use script_text::number::number_at;
-use script_text::packet::Packet;
-use script_text::packet::packet_at;
+use script_text::packet::Arrival;
+use script_text::packet::Room;
+use script_text::packet::arrival_at;
+use script_text::packet::last_room;
 use script_text::room::ROOM;
 use script_text::word::Word;
 use script_text::word::name_index;
-use script_text::word::next_word;
 
 // A call, without its table: of bytes how many stand at the front of the input, of an output its room.
 pub enum Call {
@@ -43,13 +43,9 @@ fn open_at(line: &[u8], w: Word) -> Line
 fn receive_at(line: &[u8], w: Word, input: &mut [u8]) -> Line
     ensures { λ r. ⌜ (contextOf r < 64) × (placeOf r < 47) ⌝ }
 {
-    let a = next_word(line, w);
-    let Number::Is(kind) = number_at(line, a) else {
-        return Line::No;
-    };
-    match packet_at(line, a, ROOM, input) {
-        Packet::Is(n, room) => Line::Asks(Call::Receive(kind, n, room)),
-        Packet::No => Line::No,
+    match arrival_at(line, w, ROOM, input) {
+        Arrival::Is(kind, n, room) => Line::Asks(Call::Receive(kind, n, room)),
+        Arrival::No => Line::No,
     }
 }
 
@@ -57,14 +53,10 @@ fn receive_at(line: &[u8], w: Word, input: &mut [u8]) -> Line
 fn report_at(line: &[u8], w: Word) -> Line
     ensures { λ r. ⌜ (contextOf r < 64) × (placeOf r < 47) ⌝ }
 {
-    let Number::Is(room) = last_number(line, w) else {
-        return Line::No;
-    };
-    let room = room as usize;
-    if ROOM < room {
-        return Line::No;
+    match last_room(line, w, ROOM) {
+        Room::Is(room) => Line::Asks(Call::Report(room)),
+        Room::No => Line::No,
     }
-    Line::Asks(Call::Report(room))
 }
 
 // dr I

@@ -1,0 +1,9 @@
+// The endpoint's calls as lines of a script: bo, bw, br, bp, bt, wt.
+//
+// What a call does is the business of `endpoint`, its text that of `script_text`. A line is taken apart before the endpoint is
+// touched; what it asks for is run, and the outcome becomes text.
+// Read `line::run_line` first.
+pub mod answer;
+pub mod call;
+pub mod line;
+pub mod totals;
