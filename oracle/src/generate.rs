@@ -14,6 +14,21 @@ use crate::script::{
 use crate::{compressor, PLACES};
 use std::collections::VecDeque;
 
+/// N and K that openings refuse.
+pub(crate) const OUT_OF_RANGE: [(u32, u32); 9] = [
+    (15, 1),
+    (16, 64),
+    (0, 0),
+    (14, 65),
+    (255, 255),
+    (256, 256),
+    (u32::MAX, 1),
+    (0, u32::MAX),
+    (65536, 65537),
+];
+/// Link types that no compressor gives out, among those it does.
+pub(crate) const LINK_TYPES: [u32; 12] = [0, 1, 2, 3, 4, 5, 6, 255, 256, 65536, 1 << 31, u32::MAX];
+
 /// How one stretch of calls between two openings behaves.
 struct Stretch {
     calls_left: usize,
@@ -180,7 +195,7 @@ impl Generator {
         let mut output = [0; MOST_BYTES];
         let mut table = self.runner.compressor.clone();
         let answer = compressor::send(&mut table, packet, &mut output);
-        let room = self.room(answer.length);
+        let room = room(&mut self.prng, answer.length);
         if answer.number == 0 && room >= answer.length && !self.sender_only {
             let bytes = output[..answer.length].to_vec();
             self.in_flight.push_back((answer.link_type, bytes));
@@ -196,8 +211,8 @@ impl Generator {
             return self.plan_flow_packet();
         };
         let place = place_of(link_type, &bytes);
-        let exact = self.exact_length(link_type, &bytes);
-        let mut room = self.room(exact);
+        let exact = exact_length(&self.runner.decompressor, link_type, &bytes);
+        let mut room = room(&mut self.prng, exact);
         if room < exact && !self.may_lose(place) {
             room = exact;
         }
@@ -234,31 +249,10 @@ impl Generator {
         }
     }
 
-    /// Tries an arrival on a copy to know the length of what it rebuilds.
-    fn exact_length(&self, link_type: u32, bytes: &[u8]) -> usize {
-        let mut output = [0; MOST_BYTES];
-        let mut table = self.runner.decompressor.clone();
-        decompressor::receive(&mut table, link_type, bytes, &mut output).length
-    }
-
     fn plan_receive(&mut self, link_type: u32, bytes: &[u8]) {
-        let exact = self.exact_length(link_type, bytes);
-        let room = self.room(exact);
+        let exact = exact_length(&self.runner.decompressor, link_type, bytes);
+        let room = room(&mut self.prng, exact);
         self.push(format!("r {link_type} {} {room}", hex(bytes)));
-    }
-
-    /// Mostly enough room, often exactly enough, sometimes too little.
-    fn room(&mut self, exact: usize) -> usize {
-        let prng = &mut self.prng;
-        match prng.below(40) {
-            0 => exact.saturating_sub(1),
-            1 if prng.bit() => prng.below(exact + 1),
-            2..=9 => exact,
-            10..=13 => (exact + prng.between(1, 40)).min(MOST_BYTES),
-            14 => MOST_BYTES,
-            _ if exact <= 100 => 100,
-            _ => 1500,
-        }
     }
 
     // Odd calls
@@ -288,15 +282,7 @@ impl Generator {
 
     fn plan_odd_send(&mut self) {
         let which = self.prng.below(self.flows.len());
-        let packet = match self.prng.below(40) {
-            0 => forge::around_the_limit(&mut self.prng, &self.flows[which]),
-            1..=9 => forge::noise(&mut self.prng),
-            _ => {
-                let header = self.flows[which].header;
-                let payload = self.prng.bytes(3);
-                flows::nearly_compressible(&mut self.prng, flows::packet(&header, &payload))
-            }
-        };
+        let packet = odd_packet(&mut self.prng, &self.flows[which]);
         self.plan_send(&packet);
     }
 
@@ -315,7 +301,7 @@ impl Generator {
     fn plan_report(&mut self) {
         let mut output = [0; 256];
         let answer = decompressor::report(&self.runner.decompressor, &mut output);
-        let room = self.room(answer.length);
+        let room = room(&mut self.prng, answer.length);
         self.push(format!("p {room}"));
     }
 
@@ -328,10 +314,8 @@ impl Generator {
 
     fn plan_forged_full_header(&mut self) {
         let which = self.prng.below(self.flows.len());
-        let header = self.flows[which].header;
-        let payload = self.prng.bytes(2);
-        let packet = flows::packet(&header, &payload);
-        let bytes = forge::full_header(&mut self.prng, &self.runner.decompressor, packet);
+        let table = &self.runner.decompressor;
+        let bytes = forged_full_header(&mut self.prng, &self.flows[which], table);
         self.plan_receive(1, &bytes);
     }
 
@@ -341,8 +325,7 @@ impl Generator {
         let (mut link_type, mut bytes) = sent.cloned().unwrap_or((2, vec![0, 0]));
         match self.prng.below(5) {
             0 => {
-                let other = [0, 1, 2, 3, 4, 5, 6, 255, 256, 65536, 1 << 31, u32::MAX];
-                link_type = self.prng.pick(&other);
+                link_type = self.prng.pick(&LINK_TYPES);
             }
             1 => {
                 link_type = self.prng.below(7) as u32;
@@ -365,21 +348,10 @@ impl Generator {
         } else {
             "or"
         };
-        let settings = [
-            (15, 1),
-            (16, 64),
-            (0, 0),
-            (14, 65),
-            (255, 255),
-            (256, 256),
-            (u32::MAX, 1),
-            (0, u32::MAX),
-            (65536, 65537),
-        ];
         let (n, k) = if !self.stretch.clean && self.repair.is_none() && self.prng.chance(1, 12) {
             (self.prng.below(15) as u32, self.prng.between(1, 64) as u32)
         } else {
-            self.prng.pick(&settings)
+            self.prng.pick(&OUT_OF_RANGE)
         };
         self.push(format!("{end} {n} {k}"));
     }
@@ -623,8 +595,50 @@ impl Generator {
     }
 }
 
+/// Tries an arrival on a copy to know the length of what it rebuilds.
+pub(crate) fn exact_length(table: &decompressor::Table, link_type: u32, bytes: &[u8]) -> usize {
+    let mut output = [0; MOST_BYTES];
+    decompressor::receive(&mut table.clone(), link_type, bytes, &mut output).length
+}
+
+/// Mostly enough room, often exactly enough, sometimes too little.
+pub(crate) fn room(prng: &mut Prng, exact: usize) -> usize {
+    match prng.below(40) {
+        0 => exact.saturating_sub(1),
+        1 if prng.bit() => prng.below(exact + 1),
+        2..=9 => exact,
+        10..=13 => (exact + prng.between(1, 40)).min(MOST_BYTES),
+        14 => MOST_BYTES,
+        _ if exact <= 100 => 100,
+        _ => 1500,
+    }
+}
+
+/// A packet no flow of the kind that is compressed would send: one condition broken, noise, or a length
+/// around the limit.
+pub(crate) fn odd_packet(prng: &mut Prng, flow: &Flow) -> Vec<u8> {
+    match prng.below(40) {
+        0 => forge::around_the_limit(prng, flow),
+        1..=9 => forge::noise(prng),
+        _ => {
+            let payload = prng.bytes(3);
+            flows::nearly_compressible(prng, flows::packet(&flow.header, &payload))
+        }
+    }
+}
+
+/// A flow's packet turned into an FH for the table.
+pub(crate) fn forged_full_header(
+    prng: &mut Prng,
+    flow: &Flow,
+    table: &decompressor::Table,
+) -> Vec<u8> {
+    let payload = prng.bytes(2);
+    forge::full_header(prng, table, flows::packet(&flow.header, &payload))
+}
+
 /// The context number a link packet is on; a plain one is on none.
-fn place_of(link_type: u32, bytes: &[u8]) -> Option<u8> {
+pub(crate) fn place_of(link_type: u32, bytes: &[u8]) -> Option<u8> {
     match link_type {
         0 => None,
         1 => bytes.get(3).copied(),
@@ -632,7 +646,7 @@ fn place_of(link_type: u32, bytes: &[u8]) -> Option<u8> {
     }
 }
 
-fn hex(bytes: &[u8]) -> String {
+pub(crate) fn hex(bytes: &[u8]) -> String {
     let mut text = String::with_capacity(2 * bytes.len());
     push_hex(&mut text, bytes);
     text

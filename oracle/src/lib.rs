@@ -5,9 +5,11 @@ pub mod bytes;
 pub mod codes;
 pub mod compressor;
 pub mod decompressor;
+pub mod endpoint;
 pub mod flows;
 pub mod forge;
 pub mod generate;
+pub mod generate_endpoint;
 pub mod header;
 pub mod mutant;
 pub mod prng;
@@ -19,6 +21,7 @@ pub const PLAIN: u32 = 0;
 pub const FULL_HEADER: u32 = 1;
 pub const COMPRESSED_UDP: u32 = 2;
 pub const COMPRESSED_RTP: u32 = 3;
+pub const CONTEXT_STATE: u32 = 4;
 
 /// Places in a table; only the first K are ever used.
 pub const PLACES: usize = 64;

@@ -35,10 +35,24 @@ pub enum Mutant {
     SentDeltaOnAllSteps,
     BrokenForgets,
     PlacesPastContextsIgnored,
+    // Routing and totals of an endpoint.
+    ContextStateToDecompressor,
+    HighTypesToCompressor,
+    JudgesBothTables,
+    CountsUnsound,
+    TotalsWrap,
+    CountsRequests,
+    CountsReports,
+    PlainNotRebuilt,
+    RefusedSendCountsAsPlain,
+    RefusedRequestNotCounted,
+    RefusedReportNotCounted,
+    OpeningKeepsTotals,
+    RefusedOpeningClearsTotals,
 }
 
 impl Mutant {
-    pub const ALL: [Mutant; 28] = [
+    pub const ALL: [Mutant; 41] = [
         Mutant::RunNotCounted,
         Mutant::JumpAdopted,
         Mutant::SingleStep,
@@ -67,5 +81,18 @@ impl Mutant {
         Mutant::SentDeltaOnAllSteps,
         Mutant::BrokenForgets,
         Mutant::PlacesPastContextsIgnored,
+        Mutant::ContextStateToDecompressor,
+        Mutant::HighTypesToCompressor,
+        Mutant::JudgesBothTables,
+        Mutant::CountsUnsound,
+        Mutant::TotalsWrap,
+        Mutant::CountsRequests,
+        Mutant::CountsReports,
+        Mutant::PlainNotRebuilt,
+        Mutant::RefusedSendCountsAsPlain,
+        Mutant::RefusedRequestNotCounted,
+        Mutant::RefusedReportNotCounted,
+        Mutant::OpeningKeepsTotals,
+        Mutant::RefusedOpeningClearsTotals,
     ];
 }

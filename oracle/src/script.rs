@@ -1,9 +1,11 @@
 //! Call scripts: one call per line, one answer line per call, on one compressor's and one
-//! decompressor's table. Any field of either table can be written and shown by name.
+//! decompressor's table, and on an endpoint with tables of its own. Any field of the two tables can be
+//! written and shown by name, and so can the endpoint's totals.
 
 use crate::decompressor::Status;
+use crate::endpoint::{self, Endpoint};
 use crate::header::{Fields, MAX_CSRC};
-use crate::refusal::Answer;
+use crate::refusal::{Answer, SendAnswer};
 use crate::{compressor, decompressor, PLACES};
 
 /// What output rooms are filled with before each call.
@@ -229,10 +231,11 @@ pub fn decompressor_table_field<'a>(
     }
 }
 
-/// The two tables of a script and room for bytes.
+/// The two tables of a script, its endpoint, and room for bytes.
 pub struct Runner {
     pub compressor: compressor::Table,
     pub decompressor: decompressor::Table,
+    pub endpoint: Endpoint,
     input: Vec<u8>,
     output: Vec<u8>,
 }
@@ -242,6 +245,7 @@ impl Default for Runner {
         Runner {
             compressor: compressor::Table::unopened(),
             decompressor: decompressor::Table::unopened(),
+            endpoint: Endpoint::unopened(),
             input: Vec::with_capacity(MOST_BYTES),
             output: Vec::with_capacity(MOST_BYTES),
         }
@@ -274,11 +278,7 @@ impl Runner {
                 end(words)?;
                 fill(&mut self.output, room);
                 let answer = compressor::send(&mut self.compressor, &self.input, &mut self.output);
-                push_number(out, answer.number);
-                out.push(' ');
-                push_number(out, answer.link_type);
-                out.push(' ');
-                push_bytes(out, &self.output, answer.length);
+                push_send_answer(out, &self.output, answer);
             }
             "q" => {
                 decode_hex(words.next()?, &mut self.input)?;
@@ -338,6 +338,53 @@ impl Runner {
                 for name in DECOMPRESSOR_FIELDS {
                     push_field(out, decompressor_field(&mut context, name));
                 }
+            }
+            "bo" => {
+                let (n, k) = two_numbers(words)?;
+                push_number(out, endpoint::open(&mut self.endpoint, n, k).number);
+            }
+            "bw" => {
+                decode_hex(words.next()?, &mut self.input)?;
+                let room = room(words.next()?)?;
+                end(words)?;
+                fill(&mut self.output, room);
+                let answer = endpoint::from_wire(&mut self.endpoint, &self.input, &mut self.output);
+                push_send_answer(out, &self.output, answer);
+            }
+            "br" => {
+                let link_type = number(words.next()?)?;
+                decode_hex(words.next()?, &mut self.input)?;
+                let room = room(words.next()?)?;
+                end(words)?;
+                fill(&mut self.output, room);
+                let answer = endpoint::from_radio(
+                    &mut self.endpoint,
+                    link_type,
+                    &self.input,
+                    &mut self.output,
+                );
+                push_answer(out, &self.output, answer);
+            }
+            "bp" => {
+                let room = room(words.next()?)?;
+                end(words)?;
+                fill(&mut self.output, room);
+                let answer = endpoint::report(&mut self.endpoint, &mut self.output);
+                push_answer(out, &self.output, answer);
+            }
+            "bt" => {
+                end(words)?;
+                for (place, total) in self.endpoint.totals.in_order().into_iter().enumerate() {
+                    if place > 0 {
+                        out.push(' ');
+                    }
+                    push_number(out, total);
+                }
+            }
+            "wt" => {
+                let (place, value) = two_numbers(words)?;
+                *self.endpoint.totals.at(place as usize)? = value;
+                out.push_str("ok");
             }
             _ => return None,
         }
@@ -459,6 +506,14 @@ fn push_bytes(out: &mut String, output: &[u8], length: usize) {
 
 fn push_answer(out: &mut String, output: &[u8], answer: Answer) {
     push_number(out, answer.number);
+    out.push(' ');
+    push_bytes(out, output, answer.length);
+}
+
+fn push_send_answer(out: &mut String, output: &[u8], answer: SendAnswer) {
+    push_number(out, answer.number);
+    out.push(' ');
+    push_number(out, answer.link_type);
     out.push(' ');
     push_bytes(out, output, answer.length);
 }

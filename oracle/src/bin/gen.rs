@@ -1,16 +1,16 @@
-//! `gen SEED COUNT [sender]`: writes COUNT random calls, the same for the same seed.
+//! `gen SEED COUNT [sender|box]`: writes COUNT random calls, the same for the same seed.
 
-use oracle::generate::Generator;
+use oracle::{generate, generate_endpoint};
 use std::io::{self, BufWriter, Write};
 use std::process::ExitCode;
 
 fn main() -> ExitCode {
     let words: Vec<String> = std::env::args().skip(1).collect();
-    let Some((seed, count, sender_only)) = read_arguments(&words) else {
-        eprintln!("usage: gen SEED COUNT [sender]");
+    let Some((seed, count, calls)) = read_arguments(&words) else {
+        eprintln!("usage: gen SEED COUNT [sender|box]");
         return ExitCode::from(2);
     };
-    match write_script(seed, count, sender_only) {
+    match write_script(seed, count, calls) {
         Ok(()) => ExitCode::SUCCESS,
         // A reader that has seen enough closes the pipe.
         Err(error) if error.kind() == io::ErrorKind::BrokenPipe => ExitCode::SUCCESS,
@@ -21,22 +21,44 @@ fn main() -> ExitCode {
     }
 }
 
-fn read_arguments(words: &[String]) -> Option<(u64, usize, bool)> {
-    let (numbers, sender_only) = match words {
-        [numbers @ .., last] if last == "sender" => (numbers, true),
-        _ => (words, false),
+/// Which calls a script holds.
+#[derive(Clone, Copy)]
+enum Calls {
+    BothTables,
+    Compressor,
+    Endpoint,
+}
+
+fn read_arguments(words: &[String]) -> Option<(u64, usize, Calls)> {
+    let (numbers, calls) = match words {
+        [numbers @ .., last] if last == "sender" => (numbers, Calls::Compressor),
+        [numbers @ .., last] if last == "box" => (numbers, Calls::Endpoint),
+        _ => (words, Calls::BothTables),
     };
     match numbers {
-        [seed, count] => Some((seed.parse().ok()?, count.parse().ok()?, sender_only)),
+        [seed, count] => Some((seed.parse().ok()?, count.parse().ok()?, calls)),
         _ => None,
     }
 }
 
-fn write_script(seed: u64, count: usize, sender_only: bool) -> io::Result<()> {
+fn write_script(seed: u64, count: usize, calls: Calls) -> io::Result<()> {
+    match calls {
+        Calls::BothTables | Calls::Compressor => {
+            let sender_only = matches!(calls, Calls::Compressor);
+            let mut generator = generate::Generator::new(seed, sender_only);
+            write_lines(count, || generator.next_line())
+        }
+        Calls::Endpoint => {
+            let mut generator = generate_endpoint::Generator::new(seed);
+            write_lines(count, || generator.next_line())
+        }
+    }
+}
+
+fn write_lines(count: usize, mut next_line: impl FnMut() -> String) -> io::Result<()> {
     let mut output = BufWriter::with_capacity(1 << 16, io::stdout().lock());
-    let mut generator = Generator::new(seed, sender_only);
     for _ in 0..count {
-        output.write_all(generator.next_line().as_bytes())?;
+        output.write_all(next_line().as_bytes())?;
         output.write_all(b"\n")?;
     }
     output.flush()

@@ -28,15 +28,15 @@ struct Counts {
 }
 
 /// A link packet on its way, with the packet that went in.
-struct InFlight {
-    link_type: u32,
-    bytes: Vec<u8>,
-    packet: Vec<u8>,
+pub struct InFlight {
+    pub link_type: u32,
+    pub bytes: Vec<u8>,
+    pub packet: Vec<u8>,
 }
 
 impl InFlight {
     /// The context number it is on; a plain one is on none.
-    fn place(&self) -> Option<u8> {
+    pub fn place(&self) -> Option<u8> {
         match self.link_type {
             0 => None,
             1 => Some(self.bytes[3]),
@@ -45,11 +45,14 @@ impl InFlight {
     }
 }
 
+/// A flow: its last packet, and the steps of ID and timestamp to the next.
+pub type Flow = (Voice, u16, u32);
+
 struct List {
     ends: Ends,
     prng: Prng,
     repeats: usize,
-    flows: Vec<(Voice, u16, u32)>,
+    flows: Vec<Flow>,
     change: usize,
     loss: usize,
     in_flight: VecDeque<InFlight>,
@@ -93,7 +96,7 @@ fn run_list(mutant: Mutant, seed: u64, counts: &mut Counts) -> Outcome {
     same("report", list.ends.report(0)?.number, 0)
 }
 
-fn new_flow(prng: &mut Prng) -> (Voice, u16, u32) {
+pub fn new_flow(prng: &mut Prng) -> Flow {
     let mut packet = voice(
         prng.pick(&[0, 65530, 300]),
         prng.pick(&[0, 65530]),
@@ -109,9 +112,67 @@ fn new_flow(prng: &mut Prng) -> (Voice, u16, u32) {
     )
 }
 
+/// Mostly the next packet of a flow, sometimes one that is no packet of a flow at all.
+pub fn next_packet(prng: &mut Prng, flows: &mut [Flow], change: usize) -> Vec<u8> {
+    if prng.chance(1, 25) {
+        let count = prng.pick(&[0, 1, 20, 39, 40, 60, 1500, 1501]);
+        return prng.bytes(count);
+    }
+    let which = prng.below(flows.len());
+    let (packet, id_step, timestamp_step) = &mut flows[which];
+    packet.id = packet.id.wrapping_add(*id_step);
+    packet.sequence = packet.sequence.wrapping_add(1);
+    packet.timestamp = packet.timestamp.wrapping_add(*timestamp_step);
+    packet.marker = prng.chance(1, 6);
+    if packet.udp_checksum != 0 {
+        packet.udp_checksum = prng.between(1, 65535) as u16;
+    }
+    let length = if prng.chance(1, 60) {
+        1440
+    } else {
+        prng.below(5)
+    };
+    packet.data = prng.bytes(length);
+    while prng.chance(change, 100) {
+        match prng.below(16) {
+            0 | 1 => packet.id = packet.id.wrapping_add(prng.pick(&[1, 65535, 77, 40000])),
+            2 | 3 => *id_step = prng.pick(&[0, 1, 2, 65535, 49152]),
+            4 => packet.sequence = packet.sequence.wrapping_add(prng.pick(&[1, 65534, 9])),
+            5 | 6 => {
+                let jump = prng.pick(&[1, 5000, 1 << 23, 1 << 31]);
+                packet.timestamp = packet.timestamp.wrapping_add(jump);
+            }
+            7 | 8 => {
+                let steps = [0, 10, 160, 4_194_303, 4_194_304, u32::MAX, u32::MAX - 16384];
+                *timestamp_step = prng.pick(&steps);
+            }
+            9 => packet.payload_type = prng.pick(&[0, 8, 127]),
+            10 | 11 => {
+                let count = prng.pick(&[0, 0, 1, 2, 15]);
+                packet.csrc = (0..count).map(|_| prng.below(3) as u32).collect();
+            }
+            12 => packet.tos = prng.pick(&[0, 1]),
+            13 => packet.ttl = prng.pick(&[63, 64]),
+            14 => packet.flags = prng.below(4) as u8,
+            _ => match prng.below(3) {
+                0 => packet.padding ^= true,
+                1 => packet.extension ^= true,
+                _ => packet.udp_checksum = prng.pick(&[0, 0xffff]),
+            },
+        }
+    }
+    let mut bytes = packet.bytes();
+    // Rarely something in the packet that makes it go plain.
+    if prng.chance(1, 40) {
+        let at = prng.below(40);
+        bytes[at] ^= 1 << prng.below(8);
+    }
+    bytes
+}
+
 impl List {
     fn send(&mut self, counts: &mut Counts) -> Outcome {
-        let packet = self.next_packet();
+        let packet = next_packet(&mut self.prng, &mut self.flows, self.change);
         let mut room = self.prng.pick(&[1500, 1600]);
         if self.prng.chance(1, 10) {
             room = self.prng.below(60);
@@ -129,65 +190,6 @@ impl List {
             counts.refused_sends += 1;
         }
         Ok(())
-    }
-
-    /// Mostly the next packet of a flow, sometimes one that is no packet of a flow at all.
-    fn next_packet(&mut self) -> Vec<u8> {
-        let prng = &mut self.prng;
-        if prng.chance(1, 25) {
-            let count = prng.pick(&[0, 1, 20, 39, 40, 60, 1500, 1501]);
-            return prng.bytes(count);
-        }
-        let which = prng.below(self.flows.len());
-        let (packet, id_step, timestamp_step) = &mut self.flows[which];
-        packet.id = packet.id.wrapping_add(*id_step);
-        packet.sequence = packet.sequence.wrapping_add(1);
-        packet.timestamp = packet.timestamp.wrapping_add(*timestamp_step);
-        packet.marker = prng.chance(1, 6);
-        if packet.udp_checksum != 0 {
-            packet.udp_checksum = prng.between(1, 65535) as u16;
-        }
-        let length = if prng.chance(1, 60) {
-            1440
-        } else {
-            prng.below(5)
-        };
-        packet.data = prng.bytes(length);
-        while prng.chance(self.change, 100) {
-            match prng.below(16) {
-                0 | 1 => packet.id = packet.id.wrapping_add(prng.pick(&[1, 65535, 77, 40000])),
-                2 | 3 => *id_step = prng.pick(&[0, 1, 2, 65535, 49152]),
-                4 => packet.sequence = packet.sequence.wrapping_add(prng.pick(&[1, 65534, 9])),
-                5 | 6 => {
-                    let jump = prng.pick(&[1, 5000, 1 << 23, 1 << 31]);
-                    packet.timestamp = packet.timestamp.wrapping_add(jump);
-                }
-                7 | 8 => {
-                    let steps = [0, 10, 160, 4_194_303, 4_194_304, u32::MAX, u32::MAX - 16384];
-                    *timestamp_step = prng.pick(&steps);
-                }
-                9 => packet.payload_type = prng.pick(&[0, 8, 127]),
-                10 | 11 => {
-                    let count = prng.pick(&[0, 0, 1, 2, 15]);
-                    packet.csrc = (0..count).map(|_| prng.below(3) as u32).collect();
-                }
-                12 => packet.tos = prng.pick(&[0, 1]),
-                13 => packet.ttl = prng.pick(&[63, 64]),
-                14 => packet.flags = prng.below(4) as u8,
-                _ => match prng.below(3) {
-                    0 => packet.padding ^= true,
-                    1 => packet.extension ^= true,
-                    _ => packet.udp_checksum = prng.pick(&[0, 0xffff]),
-                },
-            }
-        }
-        let mut bytes = packet.bytes();
-        // Rarely something in the packet that makes it go plain.
-        if prng.chance(1, 40) {
-            let at = prng.below(40);
-            bytes[at] ^= 1 << prng.below(8);
-        }
-        bytes
     }
 
     /// Whether one more loss on the context leaves one of N+1 neighbours not lost.

@@ -5,6 +5,7 @@
 mod support;
 
 mod cases;
+mod endpoint;
 mod layouts;
 mod lists;
 mod mutants;

@@ -1,18 +1,19 @@
 //! Every built-in fault is noticed by some check, and the program as it is passes all of them.
 
 use crate::support::Check;
-use crate::{cases, layouts, lists, published, refusals, soundness};
+use crate::{cases, endpoint, layouts, lists, published, refusals, soundness};
 use oracle::mutant::Mutant;
 use std::collections::BTreeSet;
 
 fn all_checks() -> Vec<(&'static str, &'static str, Check)> {
-    let groups: [(&str, &[(&str, Check)]); 6] = [
+    let groups: [(&str, &[(&str, Check)]); 7] = [
         ("cases", cases::CHECKS),
         ("published", published::CHECKS),
         ("layouts", layouts::CHECKS),
         ("refusals", refusals::CHECKS),
         ("soundness", soundness::CHECKS),
         ("lists", lists::CHECKS),
+        ("endpoint", endpoint::CHECKS),
     ];
     groups
         .iter()
@@ -43,7 +44,7 @@ fn every_mutant_is_caught() {
         caught += 1;
     }
     println!("mutants: {caught} of {} caught", Mutant::ALL.len());
-    assert_eq!(caught, 28);
+    assert_eq!(caught, 41);
 }
 
 #[test]

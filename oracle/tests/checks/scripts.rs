@@ -1,6 +1,9 @@
 //! The text form of calls, and generated scripts: answers are well formed and agree with each other.
 
+use crate::support::hex;
+use oracle::decompressor;
 use oracle::generate::Generator;
+use oracle::generate_endpoint;
 use oracle::script::Runner;
 use std::collections::{HashMap, VecDeque};
 use std::io::Write;
@@ -91,6 +94,115 @@ fn worked_transcript() {
     );
 }
 
+/// The endpoint's lines, with the packet and the answers of the transcript above.
+#[test]
+fn worked_endpoint_transcript() {
+    transcript(
+        "bt
+         6*0
+         bw 45 10
+         1 0 0 -
+         br 4 0101008000 10
+         1 0 -
+         br 5 - 0
+         1 0 -
+         bp 10
+         1 0 -
+         bo 0 0
+         1
+         wt 5 9
+         ok
+         bo 15 1
+         1
+         bt
+         5*0 9
+         bo 0 2
+         0
+         bt
+         6*0
+         bw 4500002a00014000401126c00a0000010a000002138c138e001600008000000100000000000000ffda7a 42
+         0 1 42 4500400000014000401126c00a0000010a000002138c138e000000008000000100000000000000ffda7a
+         br 1 4500400000014000401126c00a0000010a000002138c138e000000008000000100000000000000ffda7a 50
+         0 42 4500002a00014000401126c00a0000010a000002138c138e001600008000000100000000000000ffda7a
+         br 3 0001da7a 41
+         11 0 -
+         br 3 0001da7a 42
+         0 42 4500002a00024000401126bf0a0000010a000002138c138e001600008000000200000000000000ffda7a
+         br 4294967295 - 0
+         3 0 -
+         br 3 0100 9
+         8 0 -
+         bt
+         0 1 0 0 2 3
+         bp 5
+         0 5 0101018000
+         bp 4
+         11 0 -
+         br 4 0101008000 0
+         0 0 -
+         br 4 0101028000 4096
+         6 0 -
+         br 5 0101008000 7
+         3 0 -
+         bt
+         0 1 0 0 2 6
+         bw 4500002a00024000401126bf0a0000010a000002138c138e001600008000000200000000000000ffda7a 42
+         0 1 42 4500410000024000401126bf0a0000010a000002138c138e000100008000000200000000000000ffda7a
+         bw 4500002a00034000401126be0a0000010a000002138c138e001600008000000300000000000000ffda7a 4
+         0 3 4 0002da7a
+         bw - 4
+         2 0 0 -
+         br 0 45 1
+         0 1 45
+         bw 45 1
+         0 0 1 45
+         bt
+         1 2 0 1 3 7
+         wt 0 4294967294
+         ok
+         wt 3 4294967295
+         ok
+         wt 4 4294967295
+         ok
+         bw 45 1
+         0 0 1 45
+         bw 45 1
+         0 0 1 45
+         bw 4500002a00044000401126bd0a0000010a000002138c138e001600008000000400000000000000ffda7a 42
+         0 3 4 0003da7a
+         br 0 45 1
+         0 1 45
+         bt
+         4294967295 2 0 4294967295 4294967295 7
+         ds 0
+         49*0
+         dr 0
+         40*0
+         s 45 10
+         1 0 0 -
+         p 10
+         1 0 -
+         os 3 4
+         0
+         or 5 6
+         0
+         ws k 0 65
+         ok
+         bw 45 1
+         0 0 1 45
+         bt
+         4294967295 2 0 4294967295 4294967295 7
+         bo 14 64
+         0
+         bt
+         6*0
+         ds 63
+         3 65 47*0
+         dr 0
+         5 6 38*0",
+    );
+}
+
 #[test]
 fn lines_that_are_no_calls() {
     let mut runner = Runner::default();
@@ -131,12 +243,60 @@ fn lines_that_are_no_calls() {
         "ws n 1 1",
         "s 45 1 ",
         "x",
+        "bo",
+        "bo 1",
+        "bo 1 2 3",
+        "bo 1 4294967296",
+        "bo -1 2",
+        "bw",
+        "bw 45",
+        "bw 45 4097",
+        "bw 4 1",
+        "bw 4A 1",
+        "bw 45 1 1",
+        "br 45 1",
+        "br 4 - 4097",
+        "br 4294967296 - 1",
+        "br 4 - 1 1",
+        "br 4 0101008000",
+        "bp",
+        "bp 4097",
+        "bp -",
+        "bp 1 1",
+        "bt ",
+        "bt 0",
+        "wt",
+        "wt 0",
+        "wt 6 1",
+        "wt 4294967296 1",
+        "wt 0 4294967296",
+        "wt 0 -1",
+        "wt plain 1",
+        "wt 0 1 1",
+        "b",
+        "BT",
+        "wb 0 1",
     ] {
         assert_eq!(answer(&mut runner, line), "?", "line {line:?}");
     }
     // None of them changed anything.
     let zeros = vec!["0"; 49].join(" ");
     assert_eq!(answer(&mut runner, "ds 0"), zeros);
+    assert_eq!(answer(&mut runner, "bt"), "0 0 0 0 0 0");
+}
+
+/// Each total can be written and shows up in its own place, and only there.
+#[test]
+fn totals_by_place() {
+    for place in 0..6 {
+        for value in ["1", "4294967295"] {
+            let mut runner = Runner::default();
+            assert_eq!(answer(&mut runner, &format!("wt {place} {value}")), "ok");
+            let mut wanted = ["0"; 6];
+            wanted[place] = value;
+            assert_eq!(answer(&mut runner, "bt"), wanted.join(" "));
+        }
+    }
 }
 
 /// Every field can be written and shows up in its own place, and only there.
@@ -338,6 +498,237 @@ fn generated_scripts_agree_with_themselves() {
     }
 }
 
+/// What must hold between the lines of one endpoint's script: totals are counted here from the answers
+/// alone, and whatever is sent is rebuilt at once.
+struct EndpointWatch {
+    totals: [u64; 6],
+    /// What the last `bt` showed, unless totals were written or opened since.
+    shown: Option<[u64; 6]>,
+    /// Calls since that `bt`, and what the last of them was if it must move no total.
+    calls: usize,
+    quiet: Option<&'static str>,
+    /// Totals that were to move beyond the greatest number since.
+    beyond: [bool; 6],
+    receiver: decompressor::Table,
+    rebuilt: usize,
+    moved: [usize; 6],
+    stopped: [usize; 6],
+    unmoved: HashMap<&'static str, usize>,
+    numbers: HashMap<String, usize>,
+}
+
+const LAST: u64 = u32::MAX as u64;
+
+impl EndpointWatch {
+    fn new() -> Self {
+        EndpointWatch {
+            totals: [0; 6],
+            shown: None,
+            calls: 0,
+            quiet: None,
+            beyond: [false; 6],
+            receiver: decompressor::Table::unopened(),
+            rebuilt: 0,
+            moved: [0; 6],
+            stopped: [0; 6],
+            unmoved: HashMap::new(),
+            numbers: HashMap::new(),
+        }
+    }
+
+    fn see(&mut self, line: &str, answer: &str) {
+        let words: Vec<&str> = line.split(' ').collect();
+        let parts: Vec<&str> = answer.split(' ').collect();
+        assert!(!answer.contains("touched"), "{line}: {answer}");
+        if answer == "?" {
+            return;
+        }
+        match words[0] {
+            "bt" => return self.see_totals(&parts),
+            "wt" => {
+                assert_eq!(answer, "ok");
+                let place: usize = words[1].parse().expect("a place");
+                self.totals[place] = words[2].parse().expect("a value");
+                return self.forget();
+            }
+            _ => {}
+        }
+        let number: u8 = parts[0].parse().expect("a number");
+        let call = match (words[0], words.get(1)) {
+            ("br", Some(&"4")) => "request",
+            ("br", _) => "arrival",
+            (call, _) => call,
+        };
+        let allowed: &[u8] = match call {
+            "bo" => &[0, 1],
+            "bw" => &[0, 1, 2, 11],
+            "request" => &[0, 1, 4, 5, 6],
+            "arrival" => &[0, 1, 2, 3, 4, 5, 6, 7, 8, 9, 10, 11],
+            "bp" => &[0, 1, 11],
+            _ => panic!("{line} is no call of an endpoint"),
+        };
+        assert!(allowed.contains(&number), "{line}: {answer}");
+        *self.numbers.entry(format!("{call} {number}")).or_insert(0) += 1;
+        if call != "bo" && (number != 0 || call == "request") {
+            let nothing = parts[1..].iter().all(|part| *part == "0" || *part == "-");
+            assert!(nothing, "{line}: {answer}");
+        }
+        self.calls += 1;
+        self.quiet = None;
+        match (call, number) {
+            ("bo", 0) => self.see_opening(words[1], words[2]),
+            ("bo", _) => self.quiet = Some("refused opening"),
+            (_, 1) => self.quiet = Some("refused 1"),
+            ("bw", 0) => self.see_send(words[1], &parts),
+            ("arrival", 0) => self.count(4),
+            ("request", 0) => self.quiet = Some("accepted request"),
+            ("bp", 0) => self.quiet = Some("accepted report"),
+            _ => self.count(5),
+        }
+    }
+
+    fn count(&mut self, place: usize) {
+        if self.totals[place] == LAST {
+            self.beyond[place] = true;
+        } else {
+            self.totals[place] += 1;
+        }
+    }
+
+    fn forget(&mut self) {
+        self.shown = None;
+        self.beyond = [false; 6];
+    }
+
+    fn see_opening(&mut self, repeats: &str, contexts: &str) {
+        self.totals = [0; 6];
+        self.forget();
+        let settings = [repeats, contexts].map(|word| word.parse().expect("a number"));
+        decompressor::open(&mut self.receiver, settings[0], settings[1]);
+    }
+
+    fn see_send(&mut self, packet: &str, parts: &[&str]) {
+        let link_type: u32 = parts[1].parse().expect("a type");
+        self.count(link_type as usize);
+        let mut output = [0; 1500];
+        let bytes = hex(parts[3]);
+        let found = decompressor::receive(&mut self.receiver, link_type, &bytes, &mut output);
+        assert_eq!(
+            (found.number, &output[..found.length]),
+            (0, &hex(packet)[..])
+        );
+        self.rebuilt += 1;
+    }
+
+    fn see_totals(&mut self, parts: &[&str]) {
+        let found: Vec<u64> = parts
+            .iter()
+            .map(|part| part.parse().expect("a total"))
+            .collect();
+        assert_eq!(found, self.totals);
+        if let Some(shown) = self.shown {
+            for place in 0..6 {
+                self.moved[place] += usize::from(found[place] > shown[place]);
+            }
+            if let (1, Some(what)) = (self.calls, self.quiet) {
+                assert_eq!(found, shown, "{what} moved a total");
+                *self.unmoved.entry(what).or_insert(0) += 1;
+            }
+        }
+        for place in 0..6 {
+            self.stopped[place] += usize::from(self.beyond[place]);
+        }
+        self.shown = Some(self.totals);
+        self.beyond = [false; 6];
+        self.calls = 0;
+    }
+}
+
+#[test]
+fn generated_endpoint_scripts_agree_with_themselves() {
+    let mut numbers: HashMap<String, usize> = HashMap::new();
+    let mut unmoved: HashMap<&str, usize> = HashMap::new();
+    let (mut moved, mut stopped) = ([0; 6], [0; 6]);
+    let (mut lines, mut shows, mut rebuilt) = (0, 0, 0);
+    for seed in 0..12 {
+        let mut generator = generate_endpoint::Generator::new(seed);
+        let mut runner = Runner::default();
+        let mut watch = EndpointWatch::new();
+        for _ in 0..15_000 {
+            let line = generator.next_line();
+            let answer = answer(&mut runner, &line);
+            watch.see(&line, &answer);
+            lines += 1;
+            shows += usize::from(line == "bt");
+        }
+        rebuilt += watch.rebuilt;
+        for place in 0..6 {
+            moved[place] += watch.moved[place];
+            stopped[place] += watch.stopped[place];
+        }
+        for (what, count) in watch.unmoved {
+            *unmoved.entry(what).or_insert(0) += count;
+        }
+        for (number, count) in watch.numbers {
+            *numbers.entry(number).or_insert(0) += count;
+        }
+    }
+    println!(
+        "endpoint's lines: {lines}, {shows} of them bt, sent and rebuilt {rebuilt}, totals moved {moved:?}, \
+         stopped {stopped:?}, not moved by {unmoved:?}"
+    );
+    assert!(
+        shows * 8 > lines && shows * 5 < lines,
+        "{shows} bt in {lines} lines"
+    );
+    assert!(moved.iter().all(|&count| count >= 100));
+    assert!(stopped.iter().all(|&count| count >= 20));
+    for what in [
+        "refused 1",
+        "refused opening",
+        "accepted request",
+        "accepted report",
+    ] {
+        assert!(
+            unmoved.get(what).is_some_and(|&count| count >= 10),
+            "{what} is rare"
+        );
+    }
+    // Every number of every call must come up.
+    for (call, wanted) in [
+        ("bo", &[0, 1][..]),
+        ("bw", &[0, 1, 2, 11]),
+        ("request", &[0, 1, 4, 5, 6]),
+        ("bp", &[0, 1, 11]),
+        ("arrival", &[0, 1, 2, 3, 4, 5, 6, 7, 8, 9, 10, 11]),
+    ] {
+        for number in wanted {
+            let name = format!("{call} {number}");
+            assert!(
+                numbers.get(&name).is_some_and(|&count| count >= 5),
+                "{name} is rare"
+            );
+        }
+    }
+}
+
+#[test]
+fn generated_endpoint_scripts_are_the_same_for_the_same_seed() {
+    let script = |seed: u64| -> Vec<String> {
+        let mut generator = generate_endpoint::Generator::new(seed);
+        (0..3000).map(|_| generator.next_line()).collect()
+    };
+    assert_eq!(script(5), script(5));
+    assert_ne!(script(5), script(6));
+    // Only the endpoint's calls; lines that are no calls stand among them.
+    let mut runner = Runner::default();
+    for line in script(5) {
+        let call = line.split(' ').next().unwrap_or("");
+        let known = matches!(call, "bo" | "bw" | "br" | "bp" | "bt" | "wt");
+        assert!(answer(&mut runner, &line) == "?" || known, "{line}");
+    }
+}
+
 #[test]
 fn generated_scripts_are_the_same_for_the_same_seed() {
     let script = |seed: u64, sender_only: bool| -> Vec<String> {
@@ -357,8 +748,23 @@ fn generated_scripts_are_the_same_for_the_same_seed() {
 
 #[test]
 fn binaries_work_together() {
+    for arguments in [
+        &["3", "2000"][..],
+        &["3", "2000", "sender"],
+        &["3", "2000", "box"],
+    ] {
+        binaries_agree(arguments);
+    }
+    let other = Command::new(env!("CARGO_BIN_EXE_gen"))
+        .args(["3", "2000", "both"])
+        .output()
+        .expect("gen runs");
+    assert_eq!((other.status.code(), other.stdout), (Some(2), Vec::new()));
+}
+
+fn binaries_agree(arguments: &[&str]) {
     let script = Command::new(env!("CARGO_BIN_EXE_gen"))
-        .args(["3", "2000"])
+        .args(arguments)
         .output()
         .expect("gen runs");
     assert!(script.status.success());

@@ -66,10 +66,10 @@ pub struct Given {
     pub bytes: Vec<u8>,
 }
 
-const FILL: u8 = 0xaa;
+pub const FILL: u8 = 0xaa;
 
 /// Judges the output of a call: written up to the length, untouched after it.
-fn given(number: u8, link_type: u32, length: usize, output: &[u8]) -> Result<Given, String> {
+pub fn given(number: u8, link_type: u32, length: usize, output: &[u8]) -> Result<Given, String> {
     if length > output.len() {
         return Err(format!("length {length} with room {}", output.len()));
     }
