@@ -1,146 +1,165 @@
 use crate::show::Count;
-use crate::show::print_fate;
-use crate::show::print_sent;
-use crate::stream::PACKETS;
+use crate::show::Crossing;
+use crate::show::Fate;
+use crate::show::print_crossing;
+use crate::show::print_report;
+use crate::stream::PAYLOAD;
 use crate::stream::ROOM;
-use crate::stream::fields_of;
 use crate::stream::is_lost;
 use crate::stream::put_packet;
-use crtp::CompressorOutcome;
-use crtp::CompressorTable;
-use crtp::DecompressorOutcome;
-use crtp::DecompressorTable;
+use endpoint::Endpoint;
+use endpoint::Outcome;
 
-// Both ends, and what was counted so far.
-pub struct Run {
-    pub compressor: CompressorTable,
-    pub decompressor: DecompressorTable,
+// One direction of the radio link: who sends, who receives, and what was counted of it; back is what was counted of the other one.
+pub struct Link {
+    pub from_arm: bool,
+    pub sender: Endpoint,
+    pub receiver: Endpoint,
     pub count: Count,
+    pub back: Count,
 }
 
 // The first n bytes, or all where there are fewer.
-fn front<'a>(s: &'a [u8], n: usize) -> &'a [u8] {
-    if s.len() < n {
-        return s;
+fn front<'a>(s: &'a [u8; ROOM], n: usize) -> &'a [u8] {
+    let all = &s[..];
+    if ROOM < n {
+        return all;
     }
-    &s[0..n]
+    &all[0..n]
 }
 
-// What a send left, and the type and the length of what it gave out.
-struct Sent {
-    table: CompressorTable,
-    kind: u8,
-    length: usize,
-}
-
-fn send(t: CompressorTable, p: &[u8], link: &mut [u8]) -> Sent {
-    let answer = crtp::send(t, p, link);
-    let table = answer.table;
-    let outcome = answer.outcome;
-    match outcome {
-        CompressorOutcome::Accepted(kind, length) => Sent {
-            table: table,
-            kind: kind,
-            length: length,
-        },
-        CompressorOutcome::Refused(_) => Sent {
-            table: table,
-            kind: 0,
-            length: 0,
-        },
-    }
-}
-
-// What an arrival left, and whether it was rebuilt to the packet that went in.
+// What an arrival left, and what became of the packet.
 struct Arrived {
-    table: DecompressorTable,
-    exact: bool,
+    endpoint: Endpoint,
+    fate: Fate,
 }
 
-fn receive(t: DecompressorTable, kind: u8, link: &[u8], p: &[u8]) -> Arrived {
-    let mut out = [0u8; ROOM];
-    let answer = crtp::receive(t, kind as u32, link, &mut out);
-    let table = answer.table;
-    let outcome = answer.outcome;
-    match outcome {
-        DecompressorOutcome::Accepted(n) => Arrived {
-            table: table,
-            exact: check::same(front(&out, n), p),
-        },
-        DecompressorOutcome::Refused(_) => Arrived {
-            table: table,
-            exact: false,
-        },
-    }
-}
-
-// Packet i is lost, or it arrives.
-fn cross(t: DecompressorTable, i: u32, kind: u8, link: &[u8], p: &[u8]) -> Arrived {
-    if is_lost(i) {
+// A link packet that stands for p comes from the radio, or is lost.
+fn receive(e: Endpoint, lost: bool, kind: u8, link: &[u8], p: &[u8]) -> Arrived {
+    if lost {
         return Arrived {
-            table: t,
-            exact: false,
+            endpoint: e,
+            fate: Fate::Lost,
         };
     }
-    receive(t, kind, link, p)
-}
-
-// Packet i, of so many bytes, is sent and crosses the link.
-fn carry(r: Run, i: u32, packet: &[u8; ROOM], length: usize) -> Run {
-    let mut link = [0u8; ROOM];
-    let p = front(packet, length);
-    let sender = r.compressor;
-    let sent = send(sender, p, &mut link);
-    let receiver = r.decompressor;
-    let arrived = cross(receiver, i, sent.kind, front(&link, sent.length), p);
-    let before = r.count;
-    let count = show(before, i, sent.kind, length, sent.length, arrived.exact);
-    let compressor = sent.table;
-    let decompressor = arrived.table;
-    Run {
-        compressor: compressor,
-        decompressor: decompressor,
-        count: count,
+    let mut out = [0u8; ROOM];
+    let answer = endpoint::from_radio(e, kind as u32, link, &mut out);
+    let after = answer.endpoint;
+    let outcome = answer.outcome;
+    match outcome {
+        Outcome::Rebuilt(n) => Arrived {
+            endpoint: after,
+            fate: Fate::Rebuilt(check::same(front(&out, n), p)),
+        },
+        Outcome::Refused(r) => Arrived {
+            endpoint: after,
+            fate: Fate::Refused(r),
+        },
+        _ => Arrived {
+            endpoint: after,
+            fate: Fate::Rebuilt(false),
+        },
     }
 }
 
-fn one(r: Run, i: u32) -> Run {
+fn counted(c: Count, x: Crossing) -> Count {
+    let mut next = c;
+    next.sent = std::num::wrapping_add_u32(c.sent, 1);
+    next.before = std::num::wrapping_add_u32(c.before, x.before);
+    next.after = std::num::wrapping_add_u32(c.after, x.after);
+    let fate = x.fate;
+    match fate {
+        Fate::Lost => next.lost = std::num::wrapping_add_u32(c.lost, 1),
+        Fate::Rebuilt(exact) => next.exact = std::num::wrapping_add_u32(c.exact, exact as u32),
+        Fate::Refused(_) => {}
+    }
+    next
+}
+
+// The sender's packet comes from the wire and crosses the radio, or is lost there. A CR that is rebuilt exactly is not shown.
+fn carry(l: Link, turn: u8) -> Link {
     let mut packet = [0u8; ROOM];
-    let length = put_packet(&mut packet, i);
-    carry(r, i, &packet, length)
-}
-
-// Prints and counts packet i: its header is what its bytes have more than the payload, and the link spares some of it.
-fn show(c: Count, i: u32, kind: u8, length: usize, linked: usize, exact: bool) -> Count {
-    let f = fields_of(i);
-    let before = 40 + 4 * f.sources;
-    let spared = std::num::wrapping_sub_usize(length, linked) % 256;
-    let after = std::num::wrapping_sub_u32(before, spared as u32);
-    let lost = is_lost(i);
-    print_sent(i, f, kind, before, after);
-    print_fate(lost, exact);
-    counted(c, before, after, lost, exact)
-}
-
-fn one_if(b: bool) -> u32 {
-    if b { 1 } else { 0 }
-}
-
-fn counted(c: Count, before: u32, after: u32, lost: bool, exact: bool) -> Count {
-    Count {
-        before: std::num::wrapping_add_u32(c.before, before),
-        after: std::num::wrapping_add_u32(c.after, after),
-        arrived: std::num::wrapping_add_u32(c.arrived, one_if(!lost)),
-        rebuilt: std::num::wrapping_add_u32(c.rebuilt, one_if(exact)),
+    let mut link = [0u8; ROOM];
+    let length = put_packet(&mut packet, turn, l.from_arm);
+    let before = (length - PAYLOAD) as u32;
+    let p = front(&packet, length);
+    let sender = l.sender;
+    let sent = endpoint::from_wire(sender, p, &mut link);
+    let mut next = l;
+    let one = sent.endpoint;
+    next.sender = one;
+    let outcome = sent.outcome;
+    let Outcome::Sent(kind, linked) = outcome else {
+        return next;
+    };
+    let receiver = l.receiver;
+    let lost = l.from_arm & is_lost(turn);
+    let arrived = receive(receiver, lost, kind, front(&link, linked), p);
+    let fate = arrived.fate;
+    let crossing = Crossing {
+        turn: turn,
+        from_arm: l.from_arm,
+        kind: kind,
+        before: before,
+        after: (std::num::wrapping_sub_usize(linked, PAYLOAD) % 256) as u32,
+        fate: fate,
+    };
+    let old = l.count;
+    let new = counted(old, crossing);
+    if (kind < 3) | (new.exact == old.exact) {
+        print_crossing(crossing);
     }
+    let other = arrived.endpoint;
+    next.receiver = other;
+    next.count = new;
+    next
 }
 
-pub fn all(first: Run) -> Count {
-    let mut run = first;
-    let mut i = 0;
-    while i < PACKETS {
-        run = one(run, i);
-        i += 1;
+// Every fifth turn the receiver reports over the radio what is broken, if anything is.
+fn report(l: Link, turn: u8) -> Link {
+    if turn % 5 != 4 {
+        return l;
     }
-    run.count
+    let mut out = [0u8; ROOM];
+    let receiver = l.receiver;
+    let said = endpoint::report(receiver, &mut out);
+    let mut next = l;
+    let other = said.endpoint;
+    next.receiver = other;
+    let outcome = said.outcome;
+    let Outcome::Reported(n) = outcome else {
+        return next;
+    };
+    if n == 0 {
+        return next;
+    }
+    print_report(turn, l.from_arm, n);
+    let mut nothing = [0u8; 1];
+    let sender = l.sender;
+    let asked = endpoint::from_radio(
+        sender,
+        endpoint::CONTEXT_STATE,
+        front(&out, n),
+        &mut nothing,
+    );
+    let one = asked.endpoint;
+    next.sender = one;
+    next
+}
+
+// One sends and hears the other's report; then they change places.
+pub fn half_turn(l: Link, turn: u8) -> Link {
+    let carried = carry(l, turn);
+    let told = report(carried, turn);
+    let sender = told.receiver;
+    let receiver = told.sender;
+    let count = told.back;
+    let back = told.count;
+    Link {
+        from_arm: !told.from_arm,
+        sender: sender,
+        receiver: receiver,
+        count: count,
+        back: back,
+    }
 }

@@ -1,31 +1,35 @@
-use crate::stream::Fields;
+use crate::stream::voice_at;
+use crtp::Refusal;
+use endpoint::Totals;
 
-// What was counted.
-//
-// before, after: bytes of header of all packets, as they went in and on the link. arrived: packets that were not lost.
-// rebuilt: those that came out exactly as they went in.
-pub struct Count {
+// What became of a packet on its way; a rebuilt one is exactly the packet that went in, or it is not.
+pub enum Fate {
+    Lost,
+    Rebuilt(bool),
+    Refused(Refusal),
+}
+
+// A packet's way over the radio: its turn and direction, its link type, the bytes of its header before and on the link.
+pub struct Crossing {
+    pub turn: u8,
+    pub from_arm: bool,
+    pub kind: u8,
     pub before: u32,
     pub after: u32,
-    pub arrived: u32,
-    pub rebuilt: u32,
+    pub fate: Fate,
 }
 
-pub fn nothing() -> Count {
-    Count {
-        before: 0,
-        after: 0,
-        arrived: 0,
-        rebuilt: 0,
-    }
+// What was counted of one direction: packets sent, lost and rebuilt exactly, and the bytes of all headers before and on the link.
+pub struct Count {
+    pub sent: u32,
+    pub lost: u32,
+    pub exact: u32,
+    pub before: u32,
+    pub after: u32,
 }
 
-fn text(s: &[u8]) {
+pub fn text(s: &[u8]) {
     io::write_all(1, s);
-}
-
-fn number(n: u32) {
-    io::print_decimal(1, n as u64);
 }
 
 // A number with a space before it where it has one digit.
@@ -33,62 +37,101 @@ fn column(n: u32) {
     if n < 10 {
         text(b" ");
     }
-    number(n);
+    io::print_decimal(1, n as u64);
 }
 
-fn print_kind(kind: u8) {
-    if kind == 0 {
-        text(b"plain");
-    } else if kind == 1 {
-        text(b"FH");
-    } else if kind == 2 {
-        text(b"CU");
+fn print_direction(from_arm: bool) {
+    if from_arm {
+        text(b"arm to desk");
     } else {
-        text(b"CR");
+        text(b"desk to arm");
     }
 }
 
-fn print_fields(f: Fields) {
-    text(b"  sequence ");
-    number(f.sequence);
-    text(b"  timestamp ");
-    number(f.timestamp);
-    text(b"  payload type ");
-    column(f.payload);
-    text(b"  CSRC ");
-    number(f.sources);
+fn print_fate(f: Fate) {
+    match f {
+        Fate::Lost => text(b"lost\n"),
+        Fate::Rebuilt(exact) => {
+            if exact {
+                text(b"rebuilt exactly\n");
+            } else {
+                text(b"REBUILT WRONG\n");
+            }
+        }
+        Fate::Refused(r) => match r {
+            Refusal::NotLive => text(b"refused 8: its context is not live\n"),
+            Refusal::OutOfStep => text(b"refused 9: out of step\n"),
+            _ => text(b"REFUSED\n"),
+        },
+    }
 }
 
-// What went in, its link type, and the bytes of its header before and on the link.
-pub fn print_sent(i: u32, f: Fields, kind: u8, before: u32, after: u32) {
-    column(i);
-    print_fields(f);
+// Where and what the packet is, its link type, the bytes of its header before and on the link, and what became of it.
+pub fn print_crossing(c: Crossing) {
+    let v = voice_at(c.turn);
+    column(c.turn as u32);
     text(b"  ");
-    print_kind(kind);
-    text(b"  header ");
-    number(before);
-    text(b" to ");
-    column(after);
-}
-
-pub fn print_fate(lost: bool, exact: bool) {
-    if lost {
-        text(b"  lost\n");
-    } else if exact {
-        text(b"  rebuilt exactly\n");
+    print_direction(c.from_arm);
+    text(b"  timestamp ");
+    column(v.timestamp);
+    text(b"  payload type ");
+    column(v.payload);
+    text(b"  CSRC ");
+    io::print_decimal(1, v.sources as u64);
+    if c.kind == 0 {
+        text(b"  plain");
+    } else if c.kind == 1 {
+        text(b"  FH");
+    } else if c.kind == 2 {
+        text(b"  CU");
     } else {
-        text(b"  NOT REBUILT\n");
+        text(b"  CR");
     }
+    text(b"  header ");
+    column(c.before);
+    text(b" to ");
+    column(c.after);
+    text(b"  ");
+    let fate = c.fate;
+    print_fate(fate);
 }
 
-pub fn summary(c: Count) {
-    text(b"header bytes: ");
-    number(c.before);
+// A report that goes against the direction of the packets that it is about.
+pub fn print_report(turn: u8, from_arm: bool, length: usize) {
+    column(turn as u32);
+    text(b"  ");
+    print_direction(!from_arm);
+    text(b"  report of ");
+    io::print_decimal(1, length as u64);
+    text(b" bytes: full headers are asked for\n");
+}
+
+pub fn print_count(from_arm: bool, c: Count) {
+    print_direction(from_arm);
+    text(b": ");
+    column(c.sent);
+    text(b" packets, ");
+    column(c.lost);
+    text(b" lost, ");
+    column(c.exact);
+    text(b" rebuilt exactly; header bytes ");
+    column(c.before);
     text(b" before, ");
-    number(c.after);
-    text(b" on the link\nrebuilt exactly: ");
-    number(c.rebuilt);
-    text(b" of ");
-    number(c.arrived);
-    text(b" packets that arrived\n");
+    column(c.after);
+    text(b" on the link\n");
+}
+
+pub fn print_totals(t: Totals) {
+    column(t.plain);
+    text(b" plain, ");
+    column(t.full);
+    text(b" FH, ");
+    column(t.udp);
+    text(b" CU, ");
+    column(t.rtp);
+    text(b" CR sent; ");
+    column(t.rebuilt);
+    text(b" rebuilt; ");
+    column(t.refused);
+    text(b" refused\n");
 }
