@@ -116,8 +116,8 @@ abbrev kinds : List Sent → List ℕ
 kinds [] = []
 kinds (e ∷ es) = e .kind ∷ kinds es
 
--- what is computed of the first list: its answers, those types, what is lost on context 0 and on another; and its arrivals are in order.
--- Of the other: its answer, and what is lost
+-- what is computed of the first list: its answers, those types, what is lost on context 0 and on another; and its arrivals are in
+-- order. Of the other: its answer, and what is lost
 pub record Computed : Type 0 where
   answered : answers start list ≡ shown 0 packet1 ∷ shown 0 packet3 ∷ shown 11 [] ∷ shown 0 packet5 ∷ shown 0 odd ∷ []
   given : kinds (after start list .sent) ≡ 1 ∷ 1 ∷ 2 ∷ 2 ∷ 1 ∷ 1 ∷ 0 ∷ []

@@ -1,7 +1,7 @@
 -- Iarwennol. What the calls of an endpoint answer is what their definitions say, over what crtp's calls answer. Assumes nothing.
 -- Used by the proofs of the calls.
 use Prim.Native.Nat.{ℕ}
-use mathlib.Core.Path.{_≡_, refl, ap}
+use mathlib.Core.Path.{_≡_, refl, ap, _∙_}
 use mathlib.Core.Bool.{true, false, true≢false, false≢true}
 use mathlib.Core.List.{List, []}
 use Rattle.crtp.specs.Face as crtp
@@ -23,37 +23,56 @@ receiver e t o = record { compressor = e .compressor; decompressor = t; totals =
 abbrev pub answer : Outcome → Endpoint → (output : List ℕ) → Result
 answer o e output = said (record { outcome = o; endpoint = e }) output
 
+-- x, y: what the definition of crtp's call says
 module _ (e : Endpoint) (output : List ℕ) where
   module _ (t : CompressorTable) where
-    pub said-sent : (o : CompressorOutcome)
+    sent-by : (o : CompressorOutcome)
         → answer (sentOf o) (sender e t (sentOf o)) output ≡ sentBy e (crtp.sending.said (record { outcome = o; table = t }) output)
-    said-sent (CompressorOutcome.Accepted k n) = refl
-    said-sent (CompressorOutcome.Refused r) = rw (refusalNumber-refused r)
+    sent-by (CompressorOutcome.Accepted k n) = refl
+    sent-by (CompressorOutcome.Refused r) = rw (refusalNumber-refused r)
 
-    pub said-requested : (o : CompressorOutcome) (none : List ℕ)
+    requested-by : (o : CompressorOutcome)
         → answer (requestedOf o) (sender e t (requestedOf o)) output
-        ≡ requestedBy e output (crtp.sending.said (record { outcome = o; table = t }) none)
-    said-requested (CompressorOutcome.Accepted k n) none = refl
-    said-requested (CompressorOutcome.Refused r) none = rw (refusalNumber-refused r)
+        ≡ requestedBy e output (crtp.sending.said (record { outcome = o; table = t }) [])
+    requested-by (CompressorOutcome.Accepted k n) = refl
+    requested-by (CompressorOutcome.Refused r) = rw (refusalNumber-refused r)
+
+    module _ (o : CompressorOutcome) (x : crtp.sending.Result) where
+      pub said-sent : crtp.sending.said (record { outcome = o; table = t }) output ≡ x
+          → answer (sentOf o) (sender e t (sentOf o)) output ≡ sentBy e x
+      said-sent q = sent-by o ∙ ap (sentBy e) q
+
+      pub said-requested : crtp.sending.said (record { outcome = o; table = t }) [] ≡ x
+          → answer (requestedOf o) (sender e t (requestedOf o)) output ≡ requestedBy e output x
+      said-requested q = requested-by o ∙ ap (requestedBy e output) q
 
   module _ (t : DecompressorTable) where
-    pub said-rebuilt : (o : DecompressorOutcome)
+    rebuilt-by : (o : DecompressorOutcome)
         → answer (rebuiltOf o) (receiver e t (rebuiltOf o)) output
         ≡ answeredBy rebuilt e (crtp.receiving.said (record { outcome = o; table = t }) output)
-    said-rebuilt (DecompressorOutcome.Accepted n) = refl
-    said-rebuilt (DecompressorOutcome.Refused r) = rw (refusalNumber-refused r)
+    rebuilt-by (DecompressorOutcome.Accepted n) = refl
+    rebuilt-by (DecompressorOutcome.Refused r) = rw (refusalNumber-refused r)
 
-    pub said-reported : (o : DecompressorOutcome)
+    reported-by : (o : DecompressorOutcome)
         → answer (reportedOf o) (receiver e t (reportedOf o)) output
         ≡ answeredBy quiet e (crtp.receiving.said (record { outcome = o; table = t }) output)
-    said-reported (DecompressorOutcome.Accepted n) = refl
-    said-reported (DecompressorOutcome.Refused r) = rw (refusalNumber-refused r)
+    reported-by (DecompressorOutcome.Accepted n) = refl
+    reported-by (DecompressorOutcome.Refused r) = rw (refusalNumber-refused r)
+
+    module _ (o : DecompressorOutcome) (y : crtp.receiving.Result)
+        (q : crtp.receiving.said (record { outcome = o; table = t }) output ≡ y) where
+      pub said-rebuilt : answer (rebuiltOf o) (receiver e t (rebuiltOf o)) output ≡ answeredBy rebuilt e y
+      said-rebuilt = rebuilt-by o ∙ ap (answeredBy rebuilt e) q
+
+      pub said-reported : answer (reportedOf o) (receiver e t (reportedOf o)) output ≡ answeredBy quiet e y
+      said-reported = reported-by o ∙ ap (answeredBy quiet e) q
 
 -- an opening, where both accept and where one does not
 module _ (e : Endpoint) (t : CompressorTable) (d : DecompressorTable) where
   abbrev pub opening : CompressorOutcome → DecompressorOutcome → Result
   opening x y =
-      openBy e (crtp.sending.said (record { outcome = x; table = t }) []) (crtp.receiving.said (record { outcome = y; table = d }) [])
+      openBy e (crtp.sending.said (record { outcome = x; table = t }) [])
+      (crtp.receiving.said (record { outcome = y; table = d }) [])
 
   pub said-opened : (x : CompressorOutcome) (y : DecompressorOutcome) → isAccepted (openedOf x y) ≡ true
       → answer (openedOf x y) (record { compressor = t; decompressor = d; totals = noTotals }) [] ≡ opening x y

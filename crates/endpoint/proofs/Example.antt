@@ -1,9 +1,9 @@
 -- Iarwennol. The premises on two endpoints can be met in one direction while they are missed in the other. Assumes nothing.
--- From near to far goes crtp's own example, with what is lost in it; from far to near the first three packets are lost, the fourth is
--- refused, near reports it, and the report reaches far; then the radio brings near a packet that nobody sent. N 1, K 2.
+-- From near to far goes crtp's own example, with what is lost in it; from far to near the first three packets are lost, the fourth
+-- is refused, near reports it, and the report reaches far; then the radio brings near a packet that nobody sent. N 1, K 2.
 use Prim.Native.Nat.{ℕ}
 use mathlib.Core.Path.{_≡_, refl, sym, ap, _∙_, subst}
-use mathlib.Core.Bool.{true, cond}
+use mathlib.Core.Bool.{Bool, true, cond, _&&_, and-eq-true-iff}
 use mathlib.Core.List.{List, [], _∷_, _++_, map}
 use lib.Dec.{eqb}
 use Rattle.crtp.specs.Face.{openCompressorOf, openDecompressorOf, firstRefusal}
@@ -17,9 +17,11 @@ use Rattle.endpoint.specs.Totals.{noTotals}
 use Rattle.endpoint.specs.Answer.{Result}
 use Rattle.endpoint.specs.Calls.{openBy, openOf}
 use Rattle.endpoint.specs.History.{wire, radio, report}
-use Rattle.endpoint.specs.Facing.{Side, near, far, World, Call, at, arrival, answer, step, after, seen, view, AllProper, Exact}
-use Rattle.endpoint.specs.Facing.{Opened, Premises}
-use Rattle.endpoint.proofs.Facing.{AllTyped, typed-step, view-after, arrival-rebuilds, none-typed, facing}
+use Rattle.endpoint.specs.Facing as facing
+use Rattle.endpoint.specs.Facing.{Side, near, far, World, Call, at, arrival, answer, step, after, seen, view, AllProper}
+use Rattle.endpoint.specs.Facing.{Exact, Opened, Premises}
+use Rattle.endpoint.proofs.Facing.{AllTyped, typed-step, view-after, arrival-rebuilds, none-typed}
+use Rattle.endpoint.proofs.Facing as proved
 
 ---- The endpoints
 
@@ -97,31 +99,44 @@ opened = record { earlier = λ x. earlier; accepted = λ x. accepted; opened = �
 typed : AllTyped start
 typed = none-typed chosen start opened
 
+-- a list is tested call by call
+abbrev areProper : Side → List Call → Bool
+areProper d [] = true
+areProper d (x ∷ xs) = facing.proper d x && areProper d xs
+
+proper-all : (d : Side) (xs : List Call) → areProper d xs ≡ true → AllProper d xs
+proper-all d [] e = tt
+proper-all d (x ∷ xs) e =
+    let p = and-eq-true-iff (facing.proper d x) (areProper d xs) .0 e in
+    (p .0, proper-all d xs (p .1))
+
 proper : AllProper near list
-proper =
-    (refl, (refl, (refl, (refl, (refl, (refl, (refl, (refl, (refl, (refl, (refl, (refl, (refl, (refl, (refl, (refl, (refl, (refl, (refl, (refl, (refl, tt)))))))))))))))))))))
+proper = proper-all near list refl
 
 -- what near gave out is what crtp's example gave out
 given-near : robust.after crtp.start crtp.list ≡ view near (after start list)
 given-near = view-after near list start typed proper
+
+bounded-near : (c : ℕ) → Bounded (chosen .repeats) (losses c (map (seen near) list) 0 (after start list near .sent))
+bounded-near c =
+    subst (λ (v : robust.World). Bounded (chosen .repeats) (losses c crtp.list 0 (v .sent))) given-near (crtp.premises .bounded c)
 
 premises : Premises chosen near start list
 premises = record {
   opened = opened;
   proper = proper;
   ordered = crtp.premises .ordered;
-  bounded =
-      λ c. subst (λ (v : robust.World). Bounded (chosen .repeats) (losses c crtp.list 0 (v .sent))) given-near (crtp.premises .bounded c);
+  bounded = bounded-near;
 }
 
 -- so every arrival at far that is not lost is rebuilt there
 exact : Exact near list start list
-exact = facing chosen near start list premises
+exact = proved.facing chosen near start list premises
 
 ---- From far to near
 
 proper-back : AllProper far calls
-proper-back = (refl, (refl, (refl, (refl, (refl, (refl, (refl, (refl, (refl, (refl, (refl, (refl, (refl, (refl, (refl, (refl, (refl, tt)))))))))))))))))
+proper-back = proper-all far calls refl
 
 given-far : robust.after crtp.start crtp.missed ≡ view far (after start calls)
 given-far = view-after far calls start typed proper-back
@@ -131,7 +146,7 @@ too-many : Bounded (chosen .repeats) (losses 0 (map (seen far) calls) 0 (after s
 too-many b = crtp.too-many (subst (λ (v : robust.World). Bounded 1 (losses 0 crtp.missed 0 (v .sent))) (sym given-far) b)
 
 proper-before : AllProper far before
-proper-before = (refl, (refl, (refl, (refl, (refl, (refl, (refl, (refl, (refl, (refl, (refl, (refl, tt))))))))))))
+proper-before = proper-all far before refl
 
 typed-before : (xs : List Call) (w : World) → AllTyped w → AllTyped (after w xs)
 typed-before [] w t = t

@@ -1,6 +1,6 @@
 -- Iarwennol. The theorem on two endpoints that face each other: each direction by itself is robust. Assumes nothing.
--- Seen from one direction, every call is a call of crtp's on the tables of that direction, or leaves them (view-step); so crtp's own
--- theorem is the theorem here.
+-- Seen from one direction, every call is a call of crtp's on the tables of that direction, or leaves them (view-step); so crtp's
+-- own theorem is the theorem here.
 use Prim.Native.Nat.{ℕ, zero, suc, _≤_}
 use mathlib.Core.Path.{_≡_, refl, sym, ap, _∙_, subst}
 use mathlib.Core.Bool.{Bool, true, false, cond, true≢false}
@@ -20,7 +20,7 @@ use Rattle.endpoint.specs.Totals.{rebuilt}
 use Rattle.endpoint.specs.Answer.{Result}
 use Rattle.endpoint.specs.Calls.{contextState, requestedBy, answeredBy, openOf, wireOf, radioOf, reportOf}
 use Rattle.endpoint.specs.History as one
-use Rattle.endpoint.specs.Facing.{Side, near, far, across, Half, World, same, with, Call, at, arrival, given, sentAfter, sentAt}
+use Rattle.endpoint.specs.Facing.{Side, near, far, across, Half, World, with, Call, at, arrival, given, sentAfter, sentAt}
 use Rattle.endpoint.specs.Facing.{answer, step, after, sending, seen, view, asks, proper, AllProper, Rebuilt, Right, Exact}
 use Rattle.endpoint.specs.Facing.{Opened, Premises, Facing}
 
@@ -93,7 +93,8 @@ module _ (e : Endpoint) (es : List Sent) (v : DecompressorTable) where
 
   sending-radio : (b : Bool) (s output : Bytes) (r : face.receiving.Result)
       → crtp.step now (cond b (crtp.request s) crtp.other)
-      ≡ link (cond b (requestedBy e (output .list) (requestOf (e .compressor) (s .list))) (answeredBy rebuilt e r) .endpoint .compressor)
+      ≡ link
+      (cond b (requestedBy e (output .list) (requestOf (e .compressor) (s .list))) (answeredBy rebuilt e r) .endpoint .compressor)
       es v
   sending-radio true s output r = refl
   sending-radio false s output r = refl

@@ -1,5 +1,5 @@
--- Iarwennol. The theorem on histories: each total is the smaller of 4,294,967,295 and its count, and while none of the four has stopped
--- they are together the accepted sends. Assumes nothing.
+-- Iarwennol. The theorem on histories: each total is the smaller of 4,294,967,295 and its count, and while none of the four has
+-- stopped they are together the accepted sends. Assumes nothing.
 -- One total is followed through a list of calls, whichever it is; then the six of them are named.
 use Prim.Native.Nat.{ℕ, zero, suc, _+_, _≤_, _<_}
 use mathlib.Core.Path.{_≡_, refl, sym, ap, _∙_, subst}
@@ -35,7 +35,8 @@ stopped-add a b = by (decLe a last)
     by : Dec (a ≤ last) → stopped (b + stopped a) ≡ stopped (b + a)
     by (yes h) = ap (λ (x : ℕ). stopped (b + x)) (stopped-below a h)
     by (no h) =
-        omega (arith, stopped-above (b + stopped a) (omega (arith, stopped-above a (omega arith))), stopped-above (b + a) (omega arith))
+        let top = stopped-above a (omega arith) in
+        omega (arith, stopped-above (b + stopped a) (omega (arith, top)), stopped-above (b + a) (omega arith))
 
 module _ (total : Totals → ℕ) (is : Event → Bool)
     (counts : (t : Totals) (x : Event) → total (tallied t x) ≡ more (is x) (total t)) where
@@ -76,7 +77,8 @@ abbrev one : Bool → ℕ
 one b = cond b 1 0
 
 one-of-four : (x : Event) → Known x
-    → one (isSent plain x) + one (isSent fullHeader x) + one (isSent compressedUdp x) + one (isSent compressedRtp x) ≡ one (isSend x)
+    → one (isSent plain x) + one (isSent fullHeader x) + one (isSent compressedUdp x) + one (isSent compressedRtp x)
+    ≡ one (isSend x)
 one-of-four (sent zero) h = omega arith
 one-of-four (sent (suc zero)) h = omega arith
 one-of-four (sent (suc (suc zero))) h = omega arith

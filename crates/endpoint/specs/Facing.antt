@@ -1,6 +1,6 @@
--- Iarwennol. Robustness of two endpoints that face each other, stated (rules 13.7, 13.8): each direction by itself. What is asked of one
--- direction is what crtp asks of a link, and what comes of the other direction is not asked. What is claimed is what the receiving
--- endpoint's own call answers. Read crtp's Robust.antt first; its proof is `facing` (proofs/Facing.antt).
+-- Iarwennol. Robustness of two endpoints that face each other, stated (rules 13.7, 13.8): each direction by itself. What is asked
+-- of one direction is what crtp asks of a link; nothing is asked of the other. What is claimed is what the receiving endpoint's own
+-- call answers. Read crtp's Robust.antt first; the proof is `facing` (proofs/Facing.antt).
 use Prim.Native.Nat.{ℕ}
 use mathlib.Core.Path.{_≡_}
 use mathlib.Core.Bool.{Bool, true, false, cond}
@@ -45,8 +45,8 @@ with w s h x = cond (same s x) h (w x)
 
 ---- The list of calls
 
--- rule 13.7: a call at either side, any packet from its wire or its radio or a report; and the arrival from the radio of what the i-th
--- accepted send across gave out, with its very type and bytes
+-- rule 13.7: a call at either side, any packet from its wire or its radio or a report; and the arrival from the radio of what the
+-- i-th accepted send across gave out, with its very type and bytes
 pub data Call : Type 0 where
   at : Side → one.Call → Call
   arrival : Side → (i : ℕ) (output : Bytes) → Call

@@ -3,9 +3,8 @@ ghost use Rattle.endpoint.specs.Totals.{tallied};
 ghost use Rattle.endpoint.specs.Outcomes.{eventOf};
 ghost use Rattle.endpoint.specs.Outcomes.{openedOf, sentOf, requestedOf, rebuiltOf, reportedOf, isAccepted};
 use crate::totals::Totals;
-use crate::totals::with_rebuilt;
-use crate::totals::with_refused;
-use crate::totals::with_sent;
+use crate::totals::count;
+use crate::totals::is_counted;
 use crtp::CompressorOutcome;
 use crtp::CompressorTable;
 use crtp::DecompressorOutcome;
@@ -13,10 +12,13 @@ use crtp::DecompressorTable;
 use crtp::Refusal;
 
 // Both ends of a link in one place, and what they did since they were opened.
+//
+// The totals stand between the tables: the compiler takes a struct apart where it stores numbers, and so a call does not copy the
+// table that it leaves alone.
 pub struct Endpoint {
     pub compressor: CompressorTable,
-    pub decompressor: DecompressorTable,
     pub totals: Totals,
+    pub decompressor: DecompressorTable,
 }
 
 // What became of a call, and how much it gave out.
@@ -106,10 +108,25 @@ pub fn tally(t: Totals, o: Outcome) -> Totals
 {
     match o {
         Outcome::Opened => t,
-        Outcome::Sent(kind, _) => with_sent(t, kind),
-        Outcome::Rebuilt(_) => with_rebuilt(t),
+        Outcome::Sent(kind, _) => Totals {
+            plain: count(kind == 0, t.plain),
+            full: count(kind == 1, t.full),
+            udp: count(kind == 2, t.udp),
+            rtp: count(kind == 3, t.rtp),
+            rebuilt: t.rebuilt,
+            refused: t.refused,
+        },
+        Outcome::Rebuilt(_) => {
+            let mut next = t;
+            next.rebuilt = count(true, t.rebuilt);
+            next
+        }
         Outcome::Requested => t,
         Outcome::Reported(_) => t,
-        Outcome::Refused(r) => with_refused(t, r),
+        Outcome::Refused(r) => {
+            let mut next = t;
+            next.refused = count(is_counted(r), t.refused);
+            next
+        }
     }
 }

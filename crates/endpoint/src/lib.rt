@@ -1,32 +1,26 @@
 // Both ends of a link in one place: what comes from the wire is compressed, what comes from the radio is rebuilt.
 //
-// An endpoint holds a compressor, a decompressor and six totals. A packet from the radio goes by its link type: CONTEXT_STATE to the
-// compressor, every other to the decompressor. A call judges only the table that it goes to. Like the tables of `crtp`, an endpoint
-// goes by value: each call takes it and hands it back in the answer, and the next call gets that one.
+// An endpoint holds a compressor, a decompressor and six totals. A packet from the radio goes by its link type: CONTEXT_STATE to
+// the compressor, every other to the decompressor. A call judges only the table that it goes to. Like the tables of `crtp`, an
+// endpoint goes by value: each call takes it and hands it back in the answer, and the next call gets that one.
 //
 // Read `open` first, then `from_wire` and `from_radio`, then `report`: each contract names the definition that the answer equals.
 // What those definitions say of a table is what `crtp` says of it (`crtp/specs/Face.antt`); nothing here looks further down.
-// Then read `specs/History.antt`, what the totals are after any list of calls, and `specs/Facing.antt`, what two endpoints that face
-// each other promise.
+// Then read `specs/History.antt`, what the totals are after any list of calls, and `specs/Facing.antt`, what two endpoints that
+// face each other promise. What becomes of a call is in `routes`.
 pub mod answer;
+mod routes;
 pub mod totals;
 
 ghost use mathlib.Core.Path.{_≡_};
 ghost use mathlib.Core.List.{[]};
-ghost use Rattle.crtp.specs.Face.{requestOf, receiveOf};
-ghost use Rattle.endpoint.specs.Totals.{rebuilt};
 ghost use Rattle.endpoint.specs.Answer.{said};
-ghost use Rattle.endpoint.specs.Calls.{closedEndpoint, openOf, wireOf, requestedBy, answeredBy, radioOf, reportOf};
+ghost use Rattle.endpoint.specs.Calls.{closedEndpoint, openOf, wireOf, radioOf, reportOf};
 pub use crate::answer::Answer;
 pub use crate::answer::Endpoint;
 pub use crate::answer::Outcome;
 use crate::answer::is_accepted;
 use crate::answer::opened;
-use crate::answer::rebuilt;
-use crate::answer::reported;
-use crate::answer::requested;
-use crate::answer::sent;
-use crate::answer::tally;
 pub use crate::totals::Totals;
 
 // The link type of a report on its way to the other end.
@@ -77,81 +71,20 @@ pub fn open(e: Endpoint, n: u32, k: u32) -> Answer
 pub fn from_wire(e: Endpoint, p: &[u8], out: &mut [u8]) -> Answer
     ensures { λ r. ⌜ said r (now (out .exit)) ≡ wireOf e (now (p .entry)) (now (out .entry)) ⌝ }
 {
-    let mut next = e;
-    let table = e.compressor;
-    let a = crtp::send(table, p, out);
-    let after = a.table;
-    next.compressor = after;
-    let o = a.outcome;
-    let outcome = sent(o);
-    next.totals = tally(e.totals, outcome);
-    Answer {
-        outcome: outcome,
-        endpoint: next,
-    }
+    routes::wire(e, p, out)
 }
 
-// A request from the other end; it gives nothing out.
-fn ask(e: Endpoint, s: &[u8], out: &mut [u8]) -> Answer
-    ensures { λ r. ⌜ said r (now (out .exit)) ≡ requestedBy e (now (out .entry)) (requestOf (e .compressor) (now (s .entry))) ⌝ }
-{
-    let mut next = e;
-    let table = e.compressor;
-    let a = crtp::request(table, s);
-    let after = a.table;
-    next.compressor = after;
-    let o = a.outcome;
-    let outcome = requested(o);
-    next.totals = tally(e.totals, outcome);
-    Answer {
-        outcome: outcome,
-        endpoint: next,
-    }
-}
-
-// A link packet that stands for a packet.
-fn rebuild(e: Endpoint, kind: u32, s: &[u8], out: &mut [u8]) -> Answer
-    ensures { λ r. ⌜ said r (now (out .exit))
-        ≡ answeredBy rebuilt e (receiveOf (e .decompressor) kind (now (s .entry)) (now (out .entry))) ⌝ }
-{
-    let mut next = e;
-    let table = e.decompressor;
-    let a = crtp::receive(table, kind, s, out);
-    let after = a.table;
-    next.decompressor = after;
-    let o = a.outcome;
-    let outcome = rebuilt(o);
-    next.totals = tally(e.totals, outcome);
-    Answer {
-        outcome: outcome,
-        endpoint: next,
-    }
-}
-
-// A packet from the radio, which came with this link type. A request gives nothing out; every other type is a packet for the wire.
+// A packet from the radio, which came with this link type. A request gives nothing out; of every other type a packet for the wire
+// is made.
 pub fn from_radio(e: Endpoint, kind: u32, s: &[u8], out: &mut [u8]) -> Answer
     ensures { λ r. ⌜ said r (now (out .exit)) ≡ radioOf e kind (now (s .entry)) (now (out .entry)) ⌝ }
 {
-    if kind == CONTEXT_STATE {
-        return ask(e, s, out);
-    }
-    rebuild(e, kind, s, out)
+    routes::radio(e, kind, s, out)
 }
 
-// What is to be sent to the other end of the contexts that are broken here.
+// What is to be sent to the other end, with type CONTEXT_STATE, of the contexts that are broken here; of none, nothing.
 pub fn report(e: Endpoint, out: &mut [u8]) -> Answer
     ensures { λ r. ⌜ said r (now (out .exit)) ≡ reportOf e (now (out .entry)) ⌝ }
 {
-    let mut next = e;
-    let table = e.decompressor;
-    let a = crtp::report(table, out);
-    let after = a.table;
-    next.decompressor = after;
-    let o = a.outcome;
-    let outcome = reported(o);
-    next.totals = tally(e.totals, outcome);
-    Answer {
-        outcome: outcome,
-        endpoint: next,
-    }
+    routes::report(e, out)
 }

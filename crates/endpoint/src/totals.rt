@@ -2,7 +2,7 @@ ghost use mathlib.Core.Path.{_≡_};
 ghost use mathlib.Core.Bool.{not};
 ghost use lib.Dec.{eqb};
 ghost use Rattle.crtp.specs.Face.{refusalNumber, unsound};
-ghost use Rattle.endpoint.specs.Totals.{noTotals, more, sent, rebuilt, refused, tallied};
+ghost use Rattle.endpoint.specs.Totals.{noTotals, more};
 use crtp::Refusal;
 
 // What an endpoint did since it was opened: packets that it sent plain, as FULL_HEADER, COMPRESSED_UDP and COMPRESSED_RTP; packets
@@ -35,7 +35,7 @@ pub fn nothing() -> Totals
 }
 
 // A total, where something counts in it or does not.
-fn count(counts: bool, n: u32) -> u32
+pub fn count(counts: bool, n: u32) -> u32
     ensures { λ r. ⌜ r ≡ more counts n ⌝ }
 {
     if counts & (n < Totals::LAST) {
@@ -44,28 +44,8 @@ fn count(counts: bool, n: u32) -> u32
     n
 }
 
-pub fn with_sent(t: Totals, kind: u8) -> Totals
-    ensures { λ r. ⌜ r ≡ tallied t (sent kind) ⌝ }
-{
-    Totals {
-        plain: count(kind == 0, t.plain),
-        full: count(kind == 1, t.full),
-        udp: count(kind == 2, t.udp),
-        rtp: count(kind == 3, t.rtp),
-        rebuilt: t.rebuilt,
-        refused: t.refused,
-    }
-}
-
-pub fn with_rebuilt(t: Totals) -> Totals
-    ensures { λ r. ⌜ r ≡ tallied t rebuilt ⌝ }
-{
-    let mut next = t;
-    next.rebuilt = count(true, t.rebuilt);
-    next
-}
-
-fn is_counted(r: Refusal) -> bool
+// Whether a refusal counts: not that of a table which is not sound.
+pub fn is_counted(r: Refusal) -> bool
     ensures { λ b. ⌜ b ≡ not (eqb (refusalNumber r) unsound) ⌝ }
 {
     match r {
@@ -81,12 +61,4 @@ fn is_counted(r: Refusal) -> bool
         Refusal::TooLong => true,
         Refusal::NoRoom => true,
     }
-}
-
-pub fn with_refused(t: Totals, r: Refusal) -> Totals
-    ensures { λ a. ⌜ a ≡ tallied t (refused (refusalNumber r)) ⌝ }
-{
-    let mut next = t;
-    next.refused = count(is_counted(r), t.refused);
-    next
 }

@@ -1,10 +1,7 @@
-use mathlib.Core.Path.{ap, _∙_}
-use mathlib.Core.List.{[]}
-use Rattle.endpoint.specs.Calls.{requestedBy}
 use Rattle.endpoint.proofs.Answers.{said-requested}
 use borrow.Author.Needs.{needs}
-use Rattle.endpoint.proofs.ask.Statement.{statement}
-use Rattle.endpoint.proofs.ask.Tie as tie
+use Rattle.endpoint.proofs.routes.ask.Statement.{statement}
+use Rattle.endpoint.proofs.routes.ask.Tie as tie
 
 request-requires : tie.Need-request-requires
 request-requires c κs = search needs
@@ -20,7 +17,7 @@ returns c =
     let a = c .before .before .before .before .before .before .before .args in
     let r = c .before .before .before .request in
     rw (c .tally .ensures, c .before .requested .ensures)
-    (said-requested (a .e) (a .out .now) (r .result .table) (r .result .outcome) [] ∙ ap (requestedBy (a .e) (a .out .now)) (r .ensures))
+    (said-requested (a .e) (a .out .now) (r .result .table) (r .result .outcome) _ (r .ensures))
 
 pub ask-spec : {M : Type 1} → statement M
 ask-spec = tie.close (tie.spec request-requires requested-requires tally-requires returns)

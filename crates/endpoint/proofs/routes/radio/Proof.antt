@@ -1,8 +1,8 @@
 use borrow.Author.Tests.{eq-eqb, ne-eqb}
 use Rattle.endpoint.specs.Calls.{radioOf}
 use borrow.Author.Needs.{needs}
-use Rattle.endpoint.proofs.from_radio.Statement.{statement}
-use Rattle.endpoint.proofs.from_radio.Tie as tie
+use Rattle.endpoint.proofs.routes.radio.Statement.{statement}
+use Rattle.endpoint.proofs.routes.radio.Tie as tie
 
 ask-requires : tie.Need-ask-requires
 ask-requires c κs = search needs
@@ -24,6 +24,6 @@ returns-2 : tie.Need-returns-2
 unfolding radioOf
 returns-2 c = rw (ne-eqb _ _ (c .before .before .before .before .if1 .left)) (c .before .before .rebuild .ensures)
 
-pub from-radio-spec : {M : Type 1} → statement M
-from-radio-spec =
+pub radio-spec : {M : Type 1} → statement M
+radio-spec =
     tie.close (tie.spec ask-requires same-length returns rebuild-requires same-length-2 returns-2)

@@ -1,10 +1,8 @@
-use mathlib.Core.Path.{ap, _∙_}
-use Rattle.endpoint.specs.Totals.{rebuilt}
-use Rattle.endpoint.specs.Calls.{answeredBy}
+use Rattle.crtp.specs.Face.{receiveOf}
 use Rattle.endpoint.proofs.Answers.{said-rebuilt}
 use borrow.Author.Needs.{needs}
-use Rattle.endpoint.proofs.rebuild.Statement.{statement}
-use Rattle.endpoint.proofs.rebuild.Tie as tie
+use Rattle.endpoint.proofs.routes.rebuild.Statement.{statement}
+use Rattle.endpoint.proofs.routes.rebuild.Tie as tie
 
 receive-requires : tie.Need-receive-requires
 receive-requires c κs = search needs
@@ -23,7 +21,8 @@ returns c =
     let a = c .before .before .before .before .before .before .before .before .before .before .args in
     let r = c .before .before .before .before .before .receive in
     rw (c .tally .ensures, c .before .rebuilt .ensures)
-    (said-rebuilt (a .e) (r .last .1 .1 .1 .0) (r .result .table) (r .result .outcome) ∙ ap (answeredBy rebuilt (a .e)) (r .ensures))
+    (said-rebuilt (a .e) (r .last .1 .1 .1 .0) (r .result .table) (r .result .outcome)
+    (receiveOf (a .e .decompressor) (a .kind) (a .s .now) (a .out .now)) (r .ensures))
 
 pub rebuild-spec : {M : Type 1} → statement M
 rebuild-spec =

@@ -1,9 +1,8 @@
-use mathlib.Core.Path.{ap, _∙_}
-use Rattle.endpoint.specs.Calls.{sentBy, wireOf}
+use Rattle.endpoint.specs.Calls.{wireOf}
 use Rattle.endpoint.proofs.Answers.{said-sent}
 use borrow.Author.Needs.{needs}
-use Rattle.endpoint.proofs.from_wire.Statement.{statement}
-use Rattle.endpoint.proofs.from_wire.Tie as tie
+use Rattle.endpoint.proofs.routes.wire.Statement.{statement}
+use Rattle.endpoint.proofs.routes.wire.Tie as tie
 
 send-requires : tie.Need-send-requires
 send-requires c κs = search needs
@@ -22,8 +21,9 @@ unfolding wireOf
 returns c =
     let a = c .before .before .before .before .before .before .before .before .before .before .args in
     let r = c .before .before .before .before .before .send in
-    rw (c .tally .ensures, c .before .sent .ensures) (said-sent (a .e) (r .last .1 .1 .0) (r .result .table) (r .result .outcome) ∙ ap (sentBy (a .e)) (r .ensures))
+    rw (c .tally .ensures, c .before .sent .ensures)
+    (said-sent (a .e) (r .last .1 .1 .0) (r .result .table) (r .result .outcome) _ (r .ensures))
 
-pub from-wire-spec : {M : Type 1} → statement M
-from-wire-spec =
+pub wire-spec : {M : Type 1} → statement M
+wire-spec =
     tie.close (tie.spec send-requires sent-requires tally-requires same-length returns)

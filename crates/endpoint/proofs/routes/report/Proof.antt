@@ -1,10 +1,8 @@
-use mathlib.Core.Path.{ap, _∙_}
-use Rattle.endpoint.specs.Totals.{quiet}
-use Rattle.endpoint.specs.Calls.{answeredBy, reportOf}
+use Rattle.endpoint.specs.Calls.{reportOf}
 use Rattle.endpoint.proofs.Answers.{said-reported}
 use borrow.Author.Needs.{needs}
-use Rattle.endpoint.proofs.report.Statement.{statement}
-use Rattle.endpoint.proofs.report.Tie as tie
+use Rattle.endpoint.proofs.routes.report.Statement.{statement}
+use Rattle.endpoint.proofs.routes.report.Tie as tie
 
 report-requires : tie.Need-report-requires
 report-requires c κs = search needs
@@ -24,7 +22,7 @@ returns c =
     let a = c .before .before .before .before .before .before .before .before .before .args in
     let r = c .before .before .before .before .before .report in
     rw (c .tally .ensures, c .before .reported .ensures)
-    (said-reported (a .e) (r .last .1 .0) (r .result .table) (r .result .outcome) ∙ ap (answeredBy quiet (a .e)) (r .ensures))
+    (said-reported (a .e) (r .last .1 .0) (r .result .table) (r .result .outcome) _ (r .ensures))
 
 pub report-spec : {M : Type 1} → statement M
 report-spec =
