@@ -13,10 +13,13 @@ use crtp::DecompressorTable;
 use crtp::Refusal;
 
 // Both ends of a link in one place, and what they did since they were opened.
+//
+// The totals stand between the tables: the compiler takes a struct apart where it stores numbers, and so a call does not copy the
+// table that it leaves alone.
 pub struct Endpoint {
     pub compressor: CompressorTable,
-    pub decompressor: DecompressorTable,
     pub totals: Totals,
+    pub decompressor: DecompressorTable,
 }
 
 // What became of a call, and how much it gave out.
