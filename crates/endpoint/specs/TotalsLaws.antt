@@ -1,7 +1,7 @@
--- Iarwennol. Laws of the totals: what one call does to them, whatever they are. Assume nothing.
+-- Iarwennol. Laws of the totals: what one call does to them, whatever they were. Assume nothing.
 -- Used by the theorem on histories.
 use Prim.Native.Nat.{ℕ, suc, _+_, _≤_, _<_}
-use mathlib.Core.Path.{_≡_, refl}
+use mathlib.Core.Path.{_≡_, refl, sym, subst}
 use mathlib.Core.Bool.{Bool, true, false, cond}
 use mathlib.Core.List.{List}
 use native.Mathlib.Omega.{arith}
@@ -9,9 +9,10 @@ use native.Mathlib.Decide.{decLe}
 use borrow.Author.Tests.{le-leb, leb-true, lt-ltb, le-ltb}
 use lib.Dec.{eqb, leb}
 use Rattle.crtp.specs.Face as crtp
-use Rattle.crtp.specs.Face.{receiveOf, requestOf}
+use Rattle.crtp.specs.Face.{plain, fullHeader, compressedUdp, compressedRtp, receiveOf, requestOf}
+use Rattle.endpoint.specs.declared.totals.Totals.{Totals}
 use Rattle.endpoint.specs.declared.answer.Endpoint.{Endpoint}
-use Rattle.endpoint.specs.Totals.{rebuilt, quiet, last, more, tallied}
+use Rattle.endpoint.specs.Totals.{Event, rebuilt, quiet, isSent, isRebuilt, isRefused, last, more, tallied}
 use Rattle.endpoint.specs.Calls.{judged, contextState, requestedBy, answeredBy, wireOf, radioOf, reportOf}
 use Rattle.endpoint.specs.History.{Call, wire, radio, report, answer, eventOf, stopped}
 
@@ -59,3 +60,38 @@ module _ (e : Endpoint) where
       radio-by (eqb kind contextState) (requestOf (e .compressor) (s .list))
       (receiveOf (e .decompressor) kind (s .list) (output .list)) (output .list)
   totals-call (report output) = refl
+
+-- rule 13.5: totals have 32 bits
+pub record Fits (t : Totals) : Type 0 where
+  pub plain : t .plain ≤ last
+  pub full : t .full ≤ last
+  pub udp : t .udp ≤ last
+  pub rtp : t .rtp ≤ last
+  pub rebuilt : t .rebuilt ≤ last
+  pub refused : t .refused ≤ last
+
+-- rule 13.5: from t to u each total has one more where the call counts in it, unless it had stopped
+pub record Moved (t : Totals) (x : Event) (u : Totals) : Type 0 where
+  pub plain : u .plain ≡ stopped (cond (isSent plain x) 1 0 + t .plain)
+  pub full : u .full ≡ stopped (cond (isSent fullHeader x) 1 0 + t .full)
+  pub udp : u .udp ≡ stopped (cond (isSent compressedUdp x) 1 0 + t .udp)
+  pub rtp : u .rtp ≡ stopped (cond (isSent compressedRtp x) 1 0 + t .rtp)
+  pub rebuilt : u .rebuilt ≡ stopped (cond (isRebuilt x) 1 0 + t .rebuilt)
+  pub refused : u .refused ≡ stopped (cond (isRefused x) 1 0 + t .refused)
+
+moved-tallied : (t : Totals) (x : Event) → Fits t → Moved t x (tallied t x)
+moved-tallied t x f = record {
+  plain = more-stopped (isSent plain x) (t .plain) (f .plain);
+  full = more-stopped (isSent fullHeader x) (t .full) (f .full);
+  udp = more-stopped (isSent compressedUdp x) (t .udp) (f .udp);
+  rtp = more-stopped (isSent compressedRtp x) (t .rtp) (f .rtp);
+  rebuilt = more-stopped (isRebuilt x) (t .rebuilt) (f .rebuilt);
+  refused = more-stopped (isRefused x) (t .refused) (f .refused);
+}
+
+-- one call, from any totals
+pub moved-call : (e : Endpoint) (x : Call) → Fits (e .totals)
+    → Moved (e .totals) (eventOf x (answer e x)) (answer e x .endpoint .totals)
+moved-call e x f =
+    let event = eventOf x (answer e x) in
+    subst (Moved (e .totals) event) (sym (totals-call e x)) (moved-tallied (e .totals) event f)
