@@ -1,5 +1,5 @@
 use crate::stream::voice_at;
-use crtp::Refusal;
+use endpoint::Refusal;
 use endpoint::Totals;
 
 // What became of a packet on its way; a rebuilt one is exactly the packet that went in, or it is not.

@@ -6,16 +6,16 @@ use mathlib.Core.Path.{_≡_, refl, sym, ap, _∙_, subst}
 use mathlib.Core.Bool.{Bool, true, cond, _&&_, and-eq-true-iff}
 use mathlib.Core.List.{List, [], _∷_, _++_, map}
 use lib.Dec.{eqb}
-use Rattle.crtp.specs.Face.{openCompressorOf, openDecompressorOf, firstRefusal}
+use Rattle.crtp.specs.Face.{firstRefusal}
 use Rattle.crtp.specs.Robust as robust
-use Rattle.crtp.specs.Robust.{Bytes, Bounded, losses}
+use Rattle.crtp.specs.Robust.{Bounded, losses}
 use Rattle.crtp.specs.Example.{packet0, packet1, packet2, packet3, packet4, packet5, odd, asks, asksFirst, Shown}
 use Rattle.crtp.proofs.Example as crtp
 use Rattle.crtp.proofs.Example.{bytes, wide, narrow, chosen}
 use Rattle.endpoint.specs.declared.answer.Endpoint.{Endpoint}
 use Rattle.endpoint.specs.Totals.{noTotals}
 use Rattle.endpoint.specs.Answer.{Result}
-use Rattle.endpoint.specs.Calls.{openBy, openOf}
+use Rattle.endpoint.specs.Calls.{openOf}
 use Rattle.endpoint.specs.History.{wire, radio, report}
 use Rattle.endpoint.specs.Facing as facing
 use Rattle.endpoint.specs.Facing.{Side, near, far, World, Call, at, arrival, answer, step, after, seen, view, AllProper}

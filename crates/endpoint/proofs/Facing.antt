@@ -9,11 +9,11 @@ use native.Mathlib.Omega.{arith}
 use borrow.Author.Tests.{ne-eqb}
 use lib.Dec.{eqb}
 use lib.ListN.{length, take, getD}
-use Rattle.crtp.specs.Face.{Settings, CompressorTable, DecompressorTable, compressedRtp, firstRefusal, firstRefusal-accepted}
-use Rattle.crtp.specs.Face.{openCompressorOf, openDecompressorOf, sendOf, sendOf-type, requestOf, receiveOf, table-reportOf}
+use Rattle.crtp.specs.Face.{Settings, CompressorTable, DecompressorTable, compressedRtp, firstRefusal-accepted}
+use Rattle.crtp.specs.Face.{openCompressorOf, openDecompressorOf, sendOf-type, requestOf, receiveOf, table-reportOf}
 use Rattle.crtp.specs.Face as face
 use Rattle.crtp.specs.Robust as crtp
-use Rattle.crtp.specs.Robust.{Bytes, Sent, Ordered, lost, losses, Bounded}
+use Rattle.crtp.specs.Robust.{Bytes, Sent}
 use Rattle.crtp.proofs.Robust.{robust}
 use Rattle.endpoint.specs.declared.answer.Endpoint.{Endpoint}
 use Rattle.endpoint.specs.Totals.{rebuilt}
@@ -22,7 +22,7 @@ use Rattle.endpoint.specs.Calls.{contextState, requestedBy, answeredBy, 
 use Rattle.endpoint.specs.History as one
 use Rattle.endpoint.specs.Facing.{Side, near, far, across, Half, World, with, Call, at, arrival, given, sentAfter, sentAt}
 use Rattle.endpoint.specs.Facing.{answer, step, after, sending, seen, view, asks, proper, AllProper, Rebuilt, Right, Exact}
-use Rattle.endpoint.specs.Facing.{Opened, Premises, Facing}
+use Rattle.endpoint.specs.Facing.{Opened, Facing}
 
 ---- What was given out has a link type of a packet's
 

@@ -1,23 +1,22 @@
 -- Iarwennol. The theorem on histories: each total is the smaller of 4,294,967,295 and its count, and while none of the four has
 -- stopped they are together the accepted sends. Assumes nothing.
 -- One total is followed through a list of calls, whichever it is; then the six of them are named.
-use Prim.Native.Nat.{ℕ, zero, suc, _+_, _≤_, _<_}
-use mathlib.Core.Path.{_≡_, refl, sym, ap, _∙_, subst}
+use Prim.Native.Nat.{ℕ, zero, suc, _+_, _≤_}
+use mathlib.Core.Path.{_≡_, refl, ap, _∙_}
 use mathlib.Core.Bool.{Bool, true, false, cond}
 use mathlib.Core.List.{List, [], _∷_}
 use native.Mathlib.Omega.{arith}
 use native.Mathlib.Decide.{decLe}
 use lib.Dec.{eqb}
-use Rattle.crtp.specs.Face as crtp
 use Rattle.crtp.specs.Face.{plain, fullHeader, compressedUdp, compressedRtp, sendOf, sendOf-type}
 use Rattle.endpoint.specs.declared.totals.Totals.{Totals}
 use Rattle.endpoint.specs.declared.answer.Endpoint.{Endpoint}
 use Rattle.endpoint.specs.Totals.{Event, sent, rebuilt, refused, quiet, isSent, isRebuilt, isRefused, last, more, tallied}
 use Rattle.endpoint.specs.Totals.{noTotals}
 use Rattle.endpoint.specs.TotalsLaws.{stopped-below, stopped-above, more-stopped, totals-call}
-use Rattle.endpoint.specs.Calls.{judged, contextState, openOf, wireOf, radioOf, reportOf}
+use Rattle.endpoint.specs.Calls.{judged, contextState, openOf, wireOf}
 use Rattle.endpoint.specs.History.{Call, wire, radio, report, answer, after, eventOf, history, count, isSend}
-use Rattle.endpoint.specs.History.{stopped, Tallied, Unstopped, allSent, Counted, Tallies}
+use Rattle.endpoint.specs.History.{stopped, Tallied, Unstopped, allSent, Tallies}
 
 ---- One total
 

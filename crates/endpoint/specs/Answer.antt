@@ -1,4 +1,4 @@
--- Iarwennol. What a call of an endpoint answers, and what it leaves (rules 3.1, 13.1).
+-- Iarwennol. What a call of an endpoint answers, and what it leaves (rules 3.1, 13.3).
 -- Used by the contract of every call: number, type, length, output, both tables and the totals are those of one definition.
 use Prim.Native.Nat.{ℕ}
 use mathlib.Core.List.{List}
@@ -7,9 +7,8 @@ use Rattle.endpoint.specs.declared.answer.Outcome.{Outcome}
 use Rattle.endpoint.specs.declared.answer.Outcome.the-variants.{Opened, Sent, Rebuilt, Requested, Reported, Refused}
 use Rattle.endpoint.specs.declared.answer.Endpoint.{Endpoint}
 use Rattle.endpoint.specs.declared.answer.Answer.{Answer}
-use Rattle.endpoint.specs.Totals.{Event, sent, rebuilt, refused, quiet}
 
--- rules 3.1, 13.1: number (0: accepted), link type and length of what was given out, the output and the endpoint after the call
+-- rules 3.1, 13.3: number (0: accepted), link type and length of what was given out, the output and the endpoint after the call
 pub record Result : Type 0 where
   pub number : ℕ
   pub kind : ℕ
@@ -37,6 +36,7 @@ typeOf Requested = 0
 typeOf (Reported n) = 0
 typeOf (Refused r) = 0
 
+-- rule 13.3
 abbrev pub lengthOf : Outcome → ℕ
 lengthOf Opened = 0
 lengthOf (Sent k n) = n

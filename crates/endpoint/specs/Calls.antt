@@ -10,7 +10,7 @@ use Rattle.endpoint.specs.declared.answer.Endpoint.{Endpoint}
 use Rattle.endpoint.specs.Totals.{Event, sent, rebuilt, refused, quiet, noTotals, tallied}
 use Rattle.endpoint.specs.Answer.{Result}
 
--- before any opening: no table of it is sound
+-- before any opening; neither table is sound
 abbrev pub closedEndpoint : Endpoint
 closedEndpoint = record { compressor = crtp.noCompressor; decompressor = crtp.noDecompressor; totals = noTotals }
 
@@ -32,12 +32,13 @@ openBy e c d =
       endpoint = cond (eqb n 0) (record { compressor = c .table; decompressor = d .table; totals = noTotals }) e;
     }
 
+-- rule 13.1
 unfoldable pub openOf : Endpoint → (n k : ℕ) → Result
 openOf e n k = openBy e (openCompressorOf (e .compressor) n k) (openDecompressorOf (e .decompressor) n k)
 
 ---- From the wire
 
--- rule 13.2: what the compressor answers to a packet
+-- rules 13.2, 13.3: what the compressor answers to a packet
 abbrev pub sentBy : Endpoint → crtp.sending.Result → Result
 sentBy e r = record {
   number = r .number;
@@ -51,6 +52,7 @@ sentBy e r = record {
   };
 }
 
+-- rule 13.2
 unfoldable pub wireOf : Endpoint → (packet output : List ℕ) → Result
 wireOf e p output = sentBy e (sendOf (e .compressor) p output)
 
@@ -74,7 +76,7 @@ requestedBy e output r = record {
   };
 }
 
--- what the decompressor answers; event: what it counts as, where it is accepted
+-- rules 13.2, 13.3: what the decompressor answers; event: what it counts as, where it is accepted
 abbrev pub answeredBy : Event → Endpoint → crtp.receiving.Result → Result
 answeredBy event e r = record {
   number = r .number;

@@ -1,6 +1,6 @@
 -- Iarwennol. The totals over whole histories, stated (rules 13.4 to 13.6): for every list of calls from an accepted opening each
 -- total is the smaller of 4,294,967,295 and its count. Its proof is `tallies` (proofs/History.antt).
-use Prim.Native.Nat.{ℕ, suc, _+_, _≤_}
+use Prim.Native.Nat.{ℕ, _+_, _≤_}
 use mathlib.Core.Path.{_≡_}
 use mathlib.Core.Bool.{Bool, true, false, cond}
 use mathlib.Core.List.{List, [], _∷_}

@@ -6,7 +6,8 @@ use lib.Dec.{eqb, ltb}
 use Rattle.crtp.specs.Face.{plain, fullHeader, compressedUdp, compressedRtp, unsound}
 use Rattle.endpoint.specs.declared.totals.Totals.{Totals}
 
--- what a call comes to: a packet sent with this link type, a packet rebuilt, a refusal with this number, or nothing that counts
+-- rule 13.4: what a call comes to: a packet sent with this link type, a packet rebuilt, a refusal with this number, or nothing that
+-- counts
 pub data Event : Type 0 where
   sent : (kind : ℕ) → Event
   rebuilt : Event
@@ -53,5 +54,6 @@ tallied t e = record {
   refused = more (isRefused e) (t .refused);
 }
 
+-- rule 13.1
 abbrev pub noTotals : Totals
 noTotals = record { plain = 0; full = 0; udp = 0; rtp = 0; rebuilt = 0; refused = 0 }

@@ -22,6 +22,7 @@ pub use crate::answer::Outcome;
 use crate::answer::is_accepted;
 use crate::answer::opened;
 pub use crate::totals::Totals;
+pub use crtp::Refusal;
 
 // The link type of a report on its way to the other end.
 pub const CONTEXT_STATE: u32 = 4;

@@ -1,8 +1,6 @@
 use borrow.Author.Needs.{needs}
 use Rattle.endpoint.proofs.answer.opened.Statement.{statement}
 use Rattle.endpoint.proofs.answer.opened.Tie as tie
-use Rattle.endpoint.proofs.answer.opened.Reads as reads
-use Rattle.endpoint.proofs.answer.opened.Lts as lts
 
 -- src/answer.rt:46:46
 enum-told : tie.Need-enum-told
