@@ -1,13 +1,14 @@
-use crate::clock::now;
-use crate::clock::passed;
+use crate::show::endpoint_line;
 use crate::show::line;
 use bench_packets::tally::Tally;
 use bench_packets::tally::count_batch;
 use bench_packets::tally::nothing;
-use bench_packets::turns::copy_all;
 use bench_packets::turns::make;
-use bench_packets::turns::receive_all;
-use bench_packets::turns::send_all;
+use bench_timed::ends::copy_timed;
+use bench_timed::ends::receive_timed;
+use bench_timed::ends::send_timed;
+use bench_timed::through::Through;
+use bench_timed::through::Ways;
 
 // Microseconds of a round's 32,000 sends, receives and copies.
 pub struct Times {
@@ -22,56 +23,6 @@ struct State {
     decompressor: crtp::DecompressorTable,
     tally: Tally,
     times: Times,
-}
-
-// The sends of a batch, timed.
-struct Sent {
-    table: crtp::CompressorTable,
-    time: u64,
-}
-
-fn send_timed(
-    t: crtp::CompressorTable,
-    packets: &[u8],
-    links: &mut [u8],
-    kinds: &mut [u8],
-    lengths: &mut [usize],
-) -> Sent {
-    let from = now();
-    let after = send_all(t, packets, links, kinds, lengths);
-    let to = now();
-    Sent {
-        table: after,
-        time: passed(from, to),
-    }
-}
-
-struct Received {
-    table: crtp::DecompressorTable,
-    time: u64,
-}
-
-fn receive_timed(
-    t: crtp::DecompressorTable,
-    links: &[u8],
-    kinds: &[u8],
-    lengths: &[usize],
-    rebuilt: &mut [u8],
-) -> Received {
-    let from = now();
-    let after = receive_all(t, links, kinds, lengths, rebuilt);
-    let to = now();
-    Received {
-        table: after,
-        time: passed(from, to),
-    }
-}
-
-fn copy_timed(packets: &[u8], copies: &mut [u8]) -> u64 {
-    let from = now();
-    copy_all(packets, copies);
-    let to = now();
-    passed(from, to)
 }
 
 fn later(t: Times, send: u64, receive: u64, copy: u64) -> Times {
@@ -186,32 +137,62 @@ fn batch(
     settle(crossed, packets, links, kinds, lengths, rebuilt)
 }
 
+// What a round leaves: its batches went through both ends, and each of them through an endpoint too.
+struct Measured {
+    ends: State,
+    through: Through,
+}
+
+fn turn(
+    m: Measured,
+    streams: u32,
+    i: u32,
+    packets: &mut [u8],
+    links: &mut [u8],
+    kinds: &mut [u8],
+    lengths: &mut [usize],
+    rebuilt: &mut [u8],
+) -> Measured {
+    let s = m.ends;
+    let t = m.through;
+    let ends = batch(s, streams, i, packets, links, kinds, lengths, rebuilt);
+    let through = bench_timed::through::cross(t, packets, links, kinds, lengths, rebuilt);
+    Measured {
+        ends: ends,
+        through: through,
+    }
+}
+
 fn batches(
-    first: State,
+    first: Measured,
     streams: u32,
     packets: &mut [u8],
     links: &mut [u8],
     kinds: &mut [u8],
     lengths: &mut [usize],
     rebuilt: &mut [u8],
-) -> State {
+) -> Measured {
     let mut s = first;
     let mut i = 0u32;
     while i < 500 {
-        s = batch(s, streams, i, packets, links, kinds, lengths, rebuilt);
+        s = turn(s, streams, i, packets, links, kinds, lengths, rebuilt);
         i += 1;
     }
     s
 }
 
-fn round(streams: u32, k: u32) -> State {
+fn round(streams: u32, k: u32) -> Measured {
     let mut packets = [0u8; 12800];
     let mut links = [0u8; 12800];
     let mut rebuilt = [0u8; 12800];
     let mut kinds = [0u8; 64];
     let mut lengths = [0usize; 64];
+    let first = Measured {
+        ends: opened(k),
+        through: bench_timed::through::opened(k),
+    };
     batches(
-        opened(k),
+        first,
         streams,
         &mut packets,
         &mut links,
@@ -221,11 +202,17 @@ fn round(streams: u32, k: u32) -> State {
     )
 }
 
+// The least times of the rounds so far.
+struct Fastest {
+    times: Times,
+    ways: Ways,
+}
+
 fn least(a: u64, b: u64) -> u64 {
     if a < b { a } else { b }
 }
 
-fn best(a: Times, b: Times) -> Times {
+fn best_times(a: Times, b: Times) -> Times {
     Times {
         send: least(a.send, b.send),
         receive: least(a.receive, b.receive),
@@ -233,12 +220,27 @@ fn best(a: Times, b: Times) -> Times {
     }
 }
 
-fn best_of_nine(streams: u32, k: u32, first: Times) -> Times {
+fn best_ways(a: Ways, b: Ways) -> Ways {
+    Ways {
+        wire: least(a.wire, b.wire),
+        radio: least(a.radio, b.radio),
+    }
+}
+
+fn best(a: Fastest, r: Measured) -> Fastest {
+    let s = r.ends;
+    let t = r.through;
+    Fastest {
+        times: best_times(a.times, s.times),
+        ways: best_ways(a.ways, t.ways),
+    }
+}
+
+fn best_of_nine(streams: u32, k: u32, first: Fastest) -> Fastest {
     let mut t = first;
     let mut i = 1u32;
     while i < 9 {
-        let s = round(streams, k);
-        t = best(t, s.times);
+        t = best(t, round(streams, k));
         i += 1;
     }
     t
@@ -246,12 +248,24 @@ fn best_of_nine(streams: u32, k: u32, first: Times) -> Times {
 
 // One configuration: so many streams through ends with k contexts.
 pub fn run(streams: u32, k: u32, timed: bool) {
-    let s = round(streams, k);
+    let r = round(streams, k);
+    let s = r.ends;
+    let t = r.through;
     let counted = s.tally;
-    let first = s.times;
+    let again = t.tally;
+    let times = s.times;
+    let ways = t.ways;
     if timed {
-        line(streams, k, counted, best_of_nine(streams, k, first), true);
+        let first = Fastest {
+            times: times,
+            ways: ways,
+        };
+        let f = best_of_nine(streams, k, first);
+        let send_and_receive = f.times;
+        let both_ways = f.ways;
+        line(streams, k, counted, send_and_receive, true);
+        endpoint_line(streams, k, again, both_ways);
         return;
     }
-    line(streams, k, counted, first, false);
+    line(streams, k, counted, times, false);
 }

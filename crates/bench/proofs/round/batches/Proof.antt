@@ -16,8 +16,8 @@ abbrev μ-loop : tie.MeasureT-loop
 loop-holds : tie.Need-loop-holds Inv-loop μ-loop
 loop-holds c = search needs
 
-batch-requires : tie.Need-batch-requires Inv-loop μ-loop
-batch-requires c κs = search needs
+turn-requires : tie.Need-turn-requires Inv-loop μ-loop
+turn-requires c κs = search needs
 
 add-i : tie.Need-add-i Inv-loop μ-loop
 add-i c = search needs
@@ -53,7 +53,7 @@ batches-spec =
     Inv-loop
     μ-loop
     loop-holds
-    batch-requires
+    turn-requires
     add-i
     loop-less
     loop-again
