@@ -34,10 +34,11 @@ pub enum Outcome {
     Refused(Refusal),
 }
 
-// The outcome, with the endpoint that the call leaves.
+// The endpoint that the call leaves, with the outcome. The outcome stands last: before the tables it puts copies of them a few bytes
+// past their source modulo a page, where some machines copy thirty times slower (docs/PERFORMANCE.md).
 pub struct Answer {
-    pub outcome: Outcome,
     pub endpoint: Endpoint,
+    pub outcome: Outcome,
 }
 
 // An opening of both: the compressor's refusal stands before the decompressor's.
