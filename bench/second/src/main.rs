@@ -1,7 +1,9 @@
 //! Benchmark of the second program (`../../oracle`), to lay beside that of the main program.
 //!
-//!     second        one round of each configuration: what was sent, and whether it came back
-//!     second time   nine rounds of each: the same, and picoseconds per packet
+//!     second             one round of each configuration: what was sent, and whether it came back
+//!     second time        nine rounds of each: the same, and picoseconds per packet
+//!     second sums        one round of ones' complement sums of each size: the last result
+//!     second sums time   nine rounds of each: the same, and picoseconds per sum
 //!
 //! Why it is written this way:
 //! - The counts and the byte sum of a line show that two programs did the same work; without that
@@ -14,6 +16,7 @@
 mod figures;
 mod packets;
 mod round;
+mod sums;
 
 use figures::Configuration;
 use std::process::ExitCode;
@@ -26,16 +29,28 @@ const CONFIGURATIONS: [Configuration; 3] = [
 
 fn main() -> ExitCode {
     let arguments: Vec<_> = std::env::args_os().skip(1).collect();
-    let timed = match arguments.as_slice() {
+    let (of_sums, rest) = match arguments.as_slice() {
+        [word, rest @ ..] if word == "sums" => (true, rest),
+        all => (false, all),
+    };
+    let timed = match rest {
         [] => false,
         [word] if word == "time" => true,
         _ => {
-            eprintln!("second: the only argument is `time`, or none at all");
+            eprintln!(
+                "second: the only arguments are `sums`, `time`, or `sums time`, or none at all"
+            );
             return ExitCode::from(2);
         }
     };
-    for configuration in &CONFIGURATIONS {
-        println!("{}", figures::line(configuration, timed));
+    if of_sums {
+        for size in &sums::SIZES {
+            println!("{}", sums::line(size, timed));
+        }
+    } else {
+        for configuration in &CONFIGURATIONS {
+            println!("{}", figures::line(configuration, timed));
+        }
     }
     ExitCode::SUCCESS
 }
