@@ -1,13 +1,13 @@
 -- Iarwennol. Laws of bytes that are put one after another. Assume nothing.
 -- A function of several puts is proved by one `wrote-then` per put and one `wrote-front` where it began at the front.
 use Prim.Native.Nat.{ℕ, suc, _+_, _*_, _≤_, _<_}
-use mathlib.Core.Path.{_≡_, refl, sym, ap, _∙_}
+use mathlib.Core.Path.{_≡_, refl, sym, _∙_}
 use mathlib.Core.Bool.{Bool, true, false}
-use mathlib.Core.List.{List, [], _∷_, _++_}
+use mathlib.Core.List.{List, [], _∷_, _++_, append-nil}
 use native.Mathlib.Nat.{add-zero, zero-add}
 use native.Mathlib.Numerals.{add-one}
 use native.Mathlib.Omega.{arith}
-use lib.ListN.{length, getD, take, length-append}
+use lib.ListN.{length, getD, take, length-append, drop-of-length-le}
 use lib.Seq.{sets, sets-eq, length-sets, take-suc}
 use Rattle.codes.specs.Bytes.{AllBytes, none, bigEndian}
 use Rattle.codes.specs.BytesLaws.{allBytes-append, allBytes-bigEndian}
@@ -36,6 +36,11 @@ wrote-then {l₀} {l₁} {l₂} {at} {r₁} {r₂} {xs} {ys} a b = record {
 -- a run from the front
 pub wrote-front : {l₀ l₁ : List ℕ} {r : ℕ} {bs : List ℕ} → Wrote l₀ l₁ 0 r bs → length bs ≤ length l₀ → l₁ ≡ fronted l₀ bs
 wrote-front {l₀} {l₁} {r} {bs} w h = w .holds ∙ sets-front bs l₀ h
+
+-- a run that fills the output
+pub wrote-whole : {l₀ l₁ : List ℕ} {r : ℕ} {bs : List ℕ} → Wrote l₀ l₁ 0 r bs → length bs ≡ length l₀ → l₁ ≡ bs
+wrote-whole {l₀} {l₁} {r} {bs} w e =
+    wrote-front w (omega arith) ∙ rw (drop-of-length-le l₀ {i = length bs} (omega arith), append-nil)
 
 pub wrote-nothing : {l : List ℕ} {at : ℕ} → Wrote l l at at []
 wrote-nothing {l} {at} = record { ends = sym (add-zero at); holds = refl }

@@ -34,6 +34,10 @@ unfoldable pub folded : ℕ → ℕ
 folded zero = zero
 folded (suc t) = t % 65535 + 1
 
+-- its carries put back at the low end, once; this can leave one
+abbrev pub foldOnce : ℕ → ℕ
+foldOnce t = t % 65536 + t / 65536
+
 -- every number of the list has 16 bits
 pub data AllWords : List ℕ → Type 0 where
   none : AllWords []

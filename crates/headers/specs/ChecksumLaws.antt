@@ -1,18 +1,19 @@
 -- Iarwennol. Laws of the IP checksum: from the bytes or from the fields, it is the same. Assume nothing.
 -- Used by the round trip of a compressible packet, and by the full header (links), whose checksum is that of its packet.
 use Prim.Native.Nat.{ℕ, _+_, _*_, _/_, _%_, _^_, _≤_, _<_}
-use mathlib.Core.Path.{_≡_}
+use mathlib.Core.Path.{_≡_, ap}
 use mathlib.Core.Bool.{true}
 use mathlib.Core.List.{List, [], _∷_, _++_}
 use native.Mathlib.Omega.{arith}
-use lib.ListN.{length, take, drop}
+use lib.ListN.{length, take, drop, length-append, length-drop}
+use lib.Seq.{length-take-le}
 use Rattle.codes.specs.Bytes.{AllBytes, bigEndian}
 use Rattle.codes.specs.Reading.{byteAt, wordAt, longAt}
-use Rattle.codes.proofs.BytesRead.{allBytes-byteAt, wordAt-bigEndian}
-use Rattle.packet.specs.Ranges.{HeaderInRange}
+use Rattle.codes.proofs.BytesRead.{allBytes-byteAt, wordAt-lt, wordAt-bigEndian}
+use Rattle.packet.specs.Ranges.{FlowInRange, IpInRange, HeaderInRange}
 use Rattle.packet.specs.declared.header.Header.{Header}
-use Rattle.bytes.specs.Sum.{plus, sumOf, wordsOf, complement}
-use Rattle.bytes.specs.SumLaws.{wordsOf-part}
+use Rattle.bytes.specs.Sum.{sumOf, wordsOf, complement, AllWords, none, more}
+use Rattle.bytes.specs.SumLaws.{plus-start, sumOf-zero, wordsOf-append, wordsOf-part}
 use Rattle.headers.specs.Header.{headerOf, flowOf, ipOf, headerBytes, ipFront, ipBack}
 use Rattle.headers.specs.Checksum.{ipChecksumOf, ipChecksum, highWord, lowWord}
 use Rattle.headers.specs.Compressible.{fixedForm}
@@ -41,23 +42,44 @@ flags-whole a b h k e = omega arith
 
 ---- ipChecksumOf
 
--- summed over the parts beside the length and the checksum
-pub ipChecksumOf-parts : (p : List ℕ) (total : ℕ) → 40 ≤ length p
-    → ipChecksumOf p total
-    ≡ complement (sumOf (sumOf (plus (sumOf 0 (wordsOf (take 2 (drop 0 p)))) total) (wordsOf (take 6 (drop 4 p))))
-    (wordsOf (take 8 (drop 12 p))))
-unfolding ipChecksumOf
-ipChecksumOf-parts p total h =
-    rw (
-      wordsOf-part p 0 0 (omega arith),
-      wordsOf-part p 4 4 (omega arith),
-      wordsOf-part p 6 2 (omega arith),
-      wordsOf-part p 8 0 (omega arith),
-      wordsOf-part p 12 6 (omega arith),
-      wordsOf-part p 14 4 (omega arith),
-      wordsOf-part p 16 2 (omega arith),
-      wordsOf-part p 18 0 (omega arith),
-    )
+-- the bytes of a header beside its length and its checksum
+module _ (p : List ℕ) (h : 40 ≤ length p) where
+  abbrev pub beside : List ℕ
+  beside = take 2 (drop 0 p) ++ (take 6 (drop 4 p) ++ take 8 (drop 12 p))
+
+  length-part : (n i : ℕ) → i + n ≤ 40 → length (take n (drop i p)) ≡ n
+  length-part n i k = length-take-le n (drop i p) (omega (arith, length-drop i p))
+
+  pub length-beside : length beside ≡ 16
+  length-beside =
+      rw (
+        length-append,
+        length-append,
+        length-part 2 0 (omega arith),
+        length-part 6 4 (omega arith),
+        length-part 8 12 (omega arith),
+      )
+
+  words-beside : wordsOf beside
+      ≡ wordAt p 0 ∷ wordAt p 4 ∷ wordAt p 6 ∷ wordAt p 8 ∷ wordAt p 12 ∷ wordAt p 14 ∷ wordAt p 16 ∷ wordAt p 18 ∷ []
+  words-beside =
+      rw (
+        wordsOf-append (take 2 (drop 0 p)) (take 6 (drop 4 p) ++ take 8 (drop 12 p)) (omega (arith, length-part 2 0 (omega arith))),
+        wordsOf-append (take 6 (drop 4 p)) (take 8 (drop 12 p)) (omega (arith, length-part 6 4 (omega arith))),
+        wordsOf-part p 0 0 (omega arith),
+        wordsOf-part p 4 4 (omega arith),
+        wordsOf-part p 6 2 (omega arith),
+        wordsOf-part p 8 0 (omega arith),
+        wordsOf-part p 12 6 (omega arith),
+        wordsOf-part p 14 4 (omega arith),
+        wordsOf-part p 16 2 (omega arith),
+        wordsOf-part p 18 0 (omega arith),
+      )
+
+  -- summed over them, with the length as the start value
+  pub ipChecksumOf-beside : AllBytes p → (total : ℕ) → complement (sumOf total (wordsOf beside)) ≡ ipChecksumOf p total
+  unfolding ipChecksumOf
+  ipChecksumOf-beside a total = rw (words-beside, plus-start total (wordAt-lt a 0))
 
 pub ipChecksumOf-lt : (p : List ℕ) (total : ℕ) → ipChecksumOf p total < 2 ^ 16
 unfolding ipChecksumOf
@@ -68,6 +90,46 @@ ipChecksumOf-lt p total = omega arith
 pub ipChecksum-lt : (h : Header) (total : ℕ) → ipChecksum h total < 2 ^ 16
 unfolding ipChecksum
 ipChecksum-lt h total = omega arith
+
+-- summed over the header's twenty bytes with 0 in the checksum's place
+module _ (h : Header) (total : ℕ) where
+  -- the words before the checksum, and those after it
+  abbrev front : List ℕ
+  front = (0x4500 + h .ip .tos) ∷ total ∷ h .ip .id ∷ h .ip .flags * 0x4000 ∷ (h .ip .ttl * 256 + 17) ∷ []
+
+  abbrev back : List ℕ
+  back =
+      highWord (h .flow .source)
+      ∷ lowWord (h .flow .source)
+      ∷ highWord (h .flow .destination)
+      ∷ lowWord (h .flow .destination)
+      ∷ []
+
+  module _ (r : IpInRange (h .ip)) (q : FlowInRange (h .flow)) (t : total < 2 ^ 16) where
+    front-words : AllWords front
+    front-words =
+        more {w = 0x4500 + h .ip .tos} (omega arith)
+        (more t (more (r .id) (more {w = h .ip .flags * 0x4000} (omega arith)
+        (more {w = h .ip .ttl * 256 + 17} (omega arith) none))))
+
+    words-written : wordsOf (ipFront total h ++ ipBack 0 h) ≡ front ++ (0 ∷ back)
+    unfolding ipFront ipBack
+    words-written = λ i.
+        (0x4500 + h .ip .tos)
+        ∷ wordAt-bigEndian total t [] i
+        ∷ wordAt-bigEndian (h .ip .id) (r .id) [] i
+        ∷ wordAt-bigEndian (h .ip .flags * 0x4000) (omega arith) [] i
+        ∷ (h .ip .ttl * 256 + 17)
+        ∷ 0
+        ∷ highWord-bigEndian (h .flow .source) (q .source) [] i
+        ∷ lowWord-bigEndian (h .flow .source) [] i
+        ∷ highWord-bigEndian (h .flow .destination) (q .destination) [] i
+        ∷ lowWord-bigEndian (h .flow .destination) [] i
+        ∷ []
+
+    pub ipChecksum-written : complement (sumOf 0 (wordsOf (ipFront total h ++ ipBack 0 h))) ≡ ipChecksum h total
+    unfolding ipChecksum
+    ipChecksum-written = rw words-written (ap complement (sumOf-zero 0 back (omega arith) front-words))
 
 pub ipChecksumOf-headerBytes : (l u k : ℕ) (h : Header) (rest : List ℕ) (total : ℕ) → HeaderInRange h
     → ipChecksumOf (headerBytes l u k h ++ rest) total ≡ ipChecksum h total

@@ -5,7 +5,7 @@ ghost use Rattle.headers.specs.Checksum.{ipChecksumOf};
 ghost use Rattle.headers.specs.Compressible.{fixedForm, compressible};
 use crate::place::count_at;
 use crate::place::word_at;
-use bytes::sum::add;
+use bytes::put::put_all;
 use bytes::sum::sum;
 
 // Whether the bytes have what every full header and every packet that is compressed has in common.
@@ -19,14 +19,17 @@ pub fn fixed_form(p: &[u8]) -> bool
 
 // The IP checksum of the header that stands in the bytes, with total for its length.
 //
-// The length is not read, since a full header has something else in its place.
+// The length is not read, since a full header has something else in its place. The words beside it and the checksum are put side
+// by side, so that they are one sum, which is folded at its end.
 pub fn ip_checksum_of(p: &[u8], total: u16) -> u16
     requires { ⌜ 40 ≤ length (now p) ⌝ }
     ensures { λ r. ⌜ r ≡ ipChecksumOf (now (p .entry)) total ⌝ }
 {
-    let front = add(sum(0, &p[0..2]), total);
-    let middle = sum(front, &p[4..10]);
-    65535 - sum(middle, &p[12..20])
+    let mut words = [0u8; 16];
+    let at = put_all(&mut words, 0, &p[0..2]);
+    let at = put_all(&mut words, at, &p[4..10]);
+    put_all(&mut words, at, &p[12..20]);
+    65535 - sum(total, &words)
 }
 
 // Whether a packet is compressed at all.

@@ -4,5 +4,6 @@
 // since a full header has others than its packet.
 // Read `write::put_header` first.
 pub mod checksum;
+pub mod ip;
 pub mod rtp;
 pub mod write;

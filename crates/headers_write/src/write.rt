@@ -2,11 +2,12 @@ ghost use mathlib.Core.Path.{_≡_};
 ghost use Prim.Native.Nat.{_≤_, _+_};
 ghost use lib.ListN.{length};
 ghost use Rattle.bytes.specs.Put.{Wrote};
-ghost use Rattle.headers.specs.Header.{ipFront, ipBack, udpBytes, rtpFixed, headerBytes, headerSize};
+ghost use Rattle.headers.specs.Header.{udpBytes, rtpFixed, headerBytes, headerSize};
 ghost use Rattle.headers.specs.Checksum.{printed};
 ghost use Rattle.packet.specs.Ranges.{Narrow};
-use crate::checksum::fragment_word;
 use crate::checksum::ip_checksum;
+use crate::ip::put_ip_back;
+use crate::ip::put_ip_front;
 use crate::rtp::pack_first;
 use crate::rtp::pack_second;
 use bytes::put::put_list;
@@ -16,32 +17,6 @@ use bytes::put::put32;
 use headers::rtp::RtpFirst;
 use headers::rtp::RtpSecond;
 use packet::header::Header;
-
-fn put_ip_front(out: &mut [u8], at: usize, h: Header, size: u16) -> usize
-    requires { ⌜ Narrow h × (at + 8 ≤ length (now out)) ⌝ }
-    ensures { λ r. ⌜ (r ≡ at + 8) × Wrote (now (out .entry)) (now (out .exit)) at r (ipFront size h) ⌝ }
-{
-    let ip = h.ip;
-    let fragment = fragment_word(ip.flags);
-    let at = put8(out, at, 0x45);
-    let at = put8(out, at, ip.tos);
-    let at = put16(out, at, size);
-    let at = put16(out, at, ip.id);
-    put16(out, at, fragment)
-}
-
-fn put_ip_back(out: &mut [u8], at: usize, h: Header, checksum: u16) -> usize
-    requires { ⌜ at + 12 ≤ length (now out) ⌝ }
-    ensures { λ r. ⌜ (r ≡ at + 12) × Wrote (now (out .entry)) (now (out .exit)) at r (ipBack checksum h) ⌝ }
-{
-    let ip = h.ip;
-    let flow = h.flow;
-    let at = put8(out, at, ip.ttl);
-    let at = put8(out, at, 17);
-    let at = put16(out, at, checksum);
-    let at = put32(out, at, flow.source);
-    put32(out, at, flow.destination)
-}
 
 fn put_udp(out: &mut [u8], at: usize, h: Header, size: u16) -> usize
     requires { ⌜ at + 8 ≤ length (now out) ⌝ }

@@ -1,10 +1,12 @@
-use Prim.Native.Nat.{_≤_, _-_}
-use mathlib.Core.Path.{_≡_, sym, _∙_}
+use Prim.Native.Nat.{ℕ, _≤_, _+_, _-_}
+use mathlib.Core.Path.{_≡_, sym, ap, _∙_}
+use mathlib.Core.List.{List}
 use native.Mathlib.Omega.{arith}
 use borrow.Author.Needs.{needs}
+use borrow.Rule.Slice.PartAt.{part-to-end}
 use lib.ListN.{length, drop}
 use Rattle.bytes.specs.Sum.{wordsOf, sumOf}
-use Rattle.bytes.specs.SumLaws.{wordsOf-drop, wordsOf-odd, wordsOf-end}
+use Rattle.bytes.specs.SumLaws.{sumOf-split}
 use Rattle.bytes.proofs.sum.sum.Statement.{statement}
 use Rattle.bytes.proofs.sum.sum.Tie as tie
 
@@ -20,20 +22,20 @@ loop-holds c = search needs
 sub-loop : tie.Need-sub-loop Inv-loop μ-loop
 sub-loop c = search needs
 
-shared-slice-read-be16 : tie.Need-shared-slice-read-be16 Inv-loop μ-loop
-shared-slice-read-be16 c = search needs
+add-sum-block : tie.Need-add-sum-block Inv-loop μ-loop
+add-sum-block c = search needs
 
-add-be16 : tie.Need-add-be16 Inv-loop μ-loop
-add-be16 c = search needs
+sub-sum-block : tie.Need-sub-sum-block Inv-loop μ-loop
+sub-sum-block c = search needs
 
-shared-slice-read-be16-2 : tie.Need-shared-slice-read-be16-2 Inv-loop μ-loop
-shared-slice-read-be16-2 c = search needs
+part-sum-block-start : tie.Need-part-sum-block-start Inv-loop μ-loop
+part-sum-block-start c = search needs
 
-be16-requires : tie.Need-be16-requires Inv-loop μ-loop
-be16-requires c κs = search needs
+part-sum-block-end : tie.Need-part-sum-block-end Inv-loop μ-loop
+part-sum-block-end c = search needs
 
-add-requires : tie.Need-add-requires Inv-loop μ-loop
-add-requires c κs = search needs
+sum-block-requires : tie.Need-sum-block-requires Inv-loop μ-loop
+sum-block-requires c κs = search needs
 
 add-i : tie.Need-add-i Inv-loop μ-loop
 add-i c = search needs
@@ -42,32 +44,32 @@ loop-less : tie.Need-loop-less Inv-loop μ-loop
 loop-less c = search needs
 
 loop-again : tie.Need-loop-again Inv-loop μ-loop
-loop-again c = let a = c .before .before .before .before .before .before .before .args in
-    let l = c .before .before .before .before .before .loop in
-    (omega arith, l .inv .1 ∙ rw (c .add .ensures, c .before .be16 .ensures, wordsOf-drop (a .part .now) (l .i) (omega arith)))
+loop-again c =
+    let b3 = c .before .before .before in
+    let a = b3 .before .before .args in
+    let l = b3 .loop in
+    let split = sumOf-split (a .part .now) (l .i) (l .acc) (l .i + 1600) (omega arith) (omega arith) (omega arith) in
+    (omega arith, l .inv .1 ∙ rw (c .sum-block .ensures) split)
 
-shared-slice-read-be16-3 : tie.Need-shared-slice-read-be16-3 Inv-loop μ-loop
-shared-slice-read-be16-3 c = search needs
+sub-sum-block-2 : tie.Need-sub-sum-block-2 Inv-loop μ-loop
+sub-sum-block-2 c = search needs
 
-be16-requires-2 : tie.Need-be16-requires-2 Inv-loop μ-loop
-be16-requires-2 c κs = search needs
+part-sum-block-start-2 : tie.Need-part-sum-block-start-2 Inv-loop μ-loop
+part-sum-block-start-2 c = search needs
 
-add-requires-2 : tie.Need-add-requires-2 Inv-loop μ-loop
-add-requires-2 c κs = search needs
+part-sum-block-end-2 : tie.Need-part-sum-block-end-2 Inv-loop μ-loop
+part-sum-block-end-2 c = search needs
+
+sum-block-requires-2 : tie.Need-sum-block-requires-2 Inv-loop μ-loop
+sum-block-requires-2 c κs = search needs
 
 returns : tie.Need-returns Inv-loop μ-loop
 returns c =
-    let b5 = c .before .before .before .before .before in
-    let b7 = b5 .before .before in
-    let a = b7 .args in
-    let l = b5 .loop in
-    rw (c .add2 .ensures)
-    (sym (l .inv .1 ∙ rw (wordsOf-odd (a .part .now) (l .i) (c .before .be162 .result) (omega arith) (omega arith))))
-
-returns-2 : tie.Need-returns-2 Inv-loop μ-loop
-returns-2 c = let a = c .before .before .before .before .args in
-    let l = c .before .before .loop in
-    sym (l .inv .1 ∙ rw (wordsOf-end (a .part .now) (l .i) (omega arith)))
+    let b3 = c .before .before .before in
+    let a = b3 .before .before .args in
+    let l = b3 .loop in
+    let s = a .part .now in
+    rw (c .sum-block2 .ensures) (ap (λ (rest : List ℕ). sumOf (l .acc) (wordsOf rest)) (part-to-end s (l .i)) ∙ sym (l .inv .1))
 
 pub sum-spec : {M : Type 1} → statement M
 sum-spec =
@@ -77,16 +79,16 @@ sum-spec =
     μ-loop
     loop-holds
     sub-loop
-    shared-slice-read-be16
-    add-be16
-    shared-slice-read-be16-2
-    be16-requires
-    add-requires
+    add-sum-block
+    sub-sum-block
+    part-sum-block-start
+    part-sum-block-end
+    sum-block-requires
     add-i
     loop-less
     loop-again
-    shared-slice-read-be16-3
-    be16-requires-2
-    add-requires-2
-    returns
-    returns-2)
+    sub-sum-block-2
+    part-sum-block-start-2
+    part-sum-block-end-2
+    sum-block-requires-2
+    returns)

@@ -2,8 +2,8 @@ use Rattle.headers.specs.Header.{ipBack}
 use native.Mathlib.Omega.{arith}
 use Rattle.bytes.specs.PutLaws.{wrote-then}
 use borrow.Author.Needs.{needs}
-use Rattle.headers_write.proofs.write.put_ip_back.Statement.{statement}
-use Rattle.headers_write.proofs.write.put_ip_back.Tie as tie
+use Rattle.headers_write.proofs.ip.put_ip_back.Statement.{statement}
+use Rattle.headers_write.proofs.ip.put_ip_back.Tie as tie
 
 put8-requires : tie.Need-put8-requires
 put8-requires c κs = search needs

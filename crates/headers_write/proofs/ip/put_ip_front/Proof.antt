@@ -2,8 +2,8 @@ use Rattle.headers.specs.Header.{ipFront}
 use native.Mathlib.Omega.{arith}
 use Rattle.bytes.specs.PutLaws.{wrote-then}
 use borrow.Author.Needs.{needs}
-use Rattle.headers_write.proofs.write.put_ip_front.Statement.{statement}
-use Rattle.headers_write.proofs.write.put_ip_front.Tie as tie
+use Rattle.headers_write.proofs.ip.put_ip_front.Statement.{statement}
+use Rattle.headers_write.proofs.ip.put_ip_front.Tie as tie
 
 fragment-word-requires : tie.Need-fragment-word-requires
 fragment-word-requires c κs = search needs
