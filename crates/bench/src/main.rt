@@ -6,30 +6,8 @@
 mod round;
 mod show;
 
-// What the arguments ask for.
-enum Asked {
-    Plain,
-    Timed,
-    Unknown,
-}
-
-fn arguments() -> Asked {
-    let count = os::arg_count();
-    if count <= 1 {
-        return Asked::Plain;
-    }
-    let mut word = [0u8; 8];
-    let n = os::arg(1, &mut word);
-    let time = (n == 4)
-        & (word[0] == b't')
-        & (word[1] == b'i')
-        & (word[2] == b'm')
-        & (word[3] == b'e');
-    if time & (count == 2) {
-        return Asked::Timed;
-    }
-    Asked::Unknown
-}
+use bench_shared::arguments::Asked;
+use bench_shared::arguments::arguments;
 
 fn run_all(timed: bool) {
     round::run(64, 64, timed);

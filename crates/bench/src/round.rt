@@ -4,6 +4,7 @@ use bench_packets::tally::Tally;
 use bench_packets::tally::count_batch;
 use bench_packets::tally::nothing;
 use bench_packets::turns::make;
+use bench_shared::figures::least;
 use bench_timed::ends::copy_timed;
 use bench_timed::ends::receive_timed;
 use bench_timed::ends::send_timed;
@@ -206,10 +207,6 @@ fn round(streams: u32, k: u32) -> Measured {
 struct Fastest {
     times: Times,
     ways: Ways,
-}
-
-fn least(a: u64, b: u64) -> u64 {
-    if a < b { a } else { b }
 }
 
 fn best_times(a: Times, b: Times) -> Times {

@@ -1,11 +1,7 @@
 use crate::round::Times;
 use bench_packets::tally::Tally;
+use bench_shared::figures::field;
 use bench_timed::through::Ways;
-
-fn field(name: &[u8], n: u64) {
-    io::write_all(1, name);
-    io::print_decimal(1, n);
-}
 
 // Picoseconds a packet.
 fn each(microseconds: u64) -> u64 {

@@ -1,8 +1,8 @@
-use crate::clock::now;
-use crate::clock::passed;
 use bench_packets::turns::copy_all;
 use bench_packets::turns::receive_all;
 use bench_packets::turns::send_all;
+use bench_shared::clock::now;
+use bench_shared::clock::passed;
 
 // The sends of a batch, and the microseconds that they took.
 pub struct Sent {

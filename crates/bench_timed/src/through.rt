@@ -1,11 +1,11 @@
-use crate::clock::now;
-use crate::clock::passed;
 use bench_packets::tally::Tally;
 use bench_packets::tally::count_batch;
 use bench_packets::tally::nothing;
 use bench_packets::turns::Given;
 use bench_packets::turns::wide;
 use bench_packets::turns::within;
+use bench_shared::clock::now;
+use bench_shared::clock::passed;
 use endpoint::Endpoint;
 use endpoint::Outcome;
 

@@ -7,8 +7,8 @@ use mir.Syntax.{w64}
 use mir.Val.{toZ, ofZ}
 use mir.Facts.{fits-natAbs, sfits-toZ, fits-ofZ}
 use borrow.Author.Needs.{needs}
-use Rattle.bench_timed.proofs.clock.natural.Statement.{statement}
-use Rattle.bench_timed.proofs.clock.natural.Tie as tie
+use Rattle.bench_shared.proofs.clock.natural.Statement.{statement}
+use Rattle.bench_shared.proofs.clock.natural.Tie as tie
 
 -- the test `n > 0`, on the number that the machine reads back from n's bits
 positive : (z : ℤ) → ltZ (pos 0) z ≡ true → T (nonNeg z)
