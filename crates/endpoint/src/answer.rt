@@ -13,8 +13,8 @@ use crtp::Refusal;
 
 // Both ends of a link in one place, and what they did since they were opened.
 //
-// The totals stand between the tables: the compiler takes a struct apart where it stores numbers, and so a call does not copy the
-// table that it leaves alone.
+// The totals stand between the tables because that order cost least in the benchmark, whose caller it spared a copy of the table
+// that a call leaves alone (docs/PERFORMANCE.md). It is no promise to other callers.
 pub struct Endpoint {
     pub compressor: CompressorTable,
     pub totals: Totals,
@@ -34,8 +34,8 @@ pub enum Outcome {
     Refused(Refusal),
 }
 
-// The endpoint that the call leaves, with the outcome. The outcome stands last: before the tables it puts copies of them a few bytes
-// past their source modulo a page, where some machines copy thirty times slower (docs/PERFORMANCE.md).
+// The endpoint that the call leaves, with the outcome. The outcome stands last because that cost least in the benchmark: with the
+// outcome first a copy there met a slow case of the machine's memory copy (docs/PERFORMANCE.md). Another caller may meet it too.
 pub struct Answer {
     pub endpoint: Endpoint,
     pub outcome: Outcome,

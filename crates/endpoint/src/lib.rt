@@ -1,7 +1,7 @@
 // Both ends of a link in one place: what comes from the wire is compressed, what comes from the radio is rebuilt.
 //
 // An endpoint holds a compressor, a decompressor and six totals. A packet from the radio goes by its link type: CONTEXT_STATE to
-// the compressor, every other to the decompressor. Each call is for one of the two tables, and the other may hold anything. Like the
+// the compressor, every other to the decompressor. Each call is for one of the two tables, and the other may hold anything. Like
 // tables of `crtp`, an endpoint goes by value: each call takes it and hands it back in the answer, and the next call gets that one.
 //
 // Read `open` first, then `from_wire` and `from_radio`, then `report`: each contract names the definition that the answer equals.
