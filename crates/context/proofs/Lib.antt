@@ -12,3 +12,4 @@ pub mod SoundFacts
 pub mod CompressorSound
 pub mod DecompressorSound
 pub mod PartsLaws
+pub mod Unfilled
