@@ -11,4 +11,5 @@ pub mod Others
 pub mod SoundFacts
 pub mod CompressorSound
 pub mod DecompressorSound
+pub mod DecompressorRange
 pub mod PartsLaws

@@ -3,4 +3,5 @@ pub mod Compressor
 pub mod Decompressor
 pub mod All
 pub mod Sound
+pub mod Ranges
 pub mod Cases
