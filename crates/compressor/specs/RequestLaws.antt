@@ -15,6 +15,7 @@ use Rattle.packet.specs.Refusal.{numberOf}
 use Rattle.packet.specs.RefusalLaws.{numberOf-refused}
 use Rattle.context.specs.All.{all}
 use Rattle.context.proofs.AllLaws.{all-at}
+use Rattle.context.proofs.Arrays.{set-keeps}
 use Rattle.context.specs.Compressor.{skips, startedUnlessDue, requestedBy, requested}
 use Rattle.context.proofs.Relation.{Held}
 use Rattle.context.specs.Sound.{soundCompressor}
@@ -28,7 +29,6 @@ use Rattle.compressor.specs.declared.table.Table.{Table}
 use Rattle.compressor.specs.Answer.{accepted, refused}
 use Rattle.compressor.specs.Table.{noContext, contextAt, isEmpty, emptyBy, soundOf}
 use Rattle.compressor.specs.Table.{Sound}
-use Rattle.compressor.specs.TableLaws.{set-keeps}
 use Rattle.compressor.specs.Request.{asked, askedAll, requestTable, requestBy, requestOf}
 
 ---- all, by its elements
@@ -90,7 +90,7 @@ module _ (n : ℕ) (P : CompressorContext → Type 0) (step : (c : CompressorCon
   asked-keeps : (cs : List CompressorContext) (k i : ℕ) (asks : Bool) → P (getD cs i noContext)
       → P (getD (asked n asks k cs) i noContext)
   asked-keeps cs k i true before =
-      set-keeps P cs k i (requested n (getD cs k noContext)) (λ e. step (getD cs k noContext) (rw e at before)) before
+      set-keeps P cs k i (requested n (getD cs k noContext)) noContext (λ e. step (getD cs k noContext) (rw e at before)) before
   asked-keeps cs k i false before = before
 
   askedAll-keeps : (s : List ℕ) (cs : List CompressorContext) (m i : ℕ) → P (getD cs i noContext)

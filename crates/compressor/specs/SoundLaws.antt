@@ -14,6 +14,7 @@ use Rattle.codes.specs.Bytes.{AllBytes}
 use Rattle.headers.specs.Header.{headerOf, flowOf}
 use Rattle.headers.specs.HeaderLaws.{headerOf-range}
 use Rattle.headers.specs.CompressibleLaws.{compressible-true}
+use Rattle.context.proofs.Arrays.{set-keeps}
 use Rattle.context.proofs.Relation.{Held}
 use Rattle.context.specs.Sound.{soundCompressor}
 use Rattle.outgoing.specs.StepLaws.{sound-stepOn, held-stepOn}
@@ -21,7 +22,7 @@ use Rattle.compressor.specs.declared.table.Table.{Table}
 use Rattle.compressor.specs.Answer.{Result}
 use Rattle.compressor.specs.Table.{noContext, contextAt}
 use Rattle.compressor.specs.Table.{Sound}
-use Rattle.compressor.specs.TableLaws.{soundOf-true, set-keeps, sound-withContext}
+use Rattle.compressor.specs.TableLaws.{soundOf-true, sound-withContext}
 use Rattle.compressor.specs.Send.{sendOf}
 use Rattle.compressor.specs.SendLaws.{On, stepAt, tableAt, Goes, goes-refused, goes-plain, goes-on, sendOf-goes}
 use Rattle.compressor.specs.CanSendLaws.{sound-most, sound-contextAt}
@@ -54,7 +55,7 @@ module _ (t : Table) (p : List ℕ) (i : ℕ) where
 
   held-tableAt : AllBytes p → ((j : ℕ) → Held (contextAt t j)) → (j : ℕ) → Held (contextAt (tableAt t p i) j)
   held-tableAt bytes held j =
-      set-keeps Held (t .contexts) i j (stepAt t p i .context)
+      set-keeps Held (t .contexts) i j (stepAt t p i .context) noContext
       (λ e. held-stepOn (t .settings .repeats) (headerOf p) (headerOf-range bytes) (contextAt t i) (held i)) (held j)
 
 ---- sendOf

@@ -1,15 +1,11 @@
 -- Iarwennol. Laws of the compressor's table: what it takes to stay sound, and what an opening gives. Assume nothing.
 -- Used by the laws of send and request, and by the theorem on lists of calls (crtp).
-use Prim.Native.Nat.{ℕ, suc, _-_, _<_, _≤_}
+use Prim.Native.Nat.{ℕ, _<_}
 use mathlib.Core.Path.{_≡_, refl}
 use mathlib.Core.Bool.{Bool, true, false, cond, _&&_, and-eq-true-iff}
-use mathlib.Core.List.{List}
 use native.Mathlib.Omega.{arith}
-use native.Mathlib.Decide.{decLe}
-use borrow.Author.Tests.{eqb-true, eqb-false}
-use lib.Dec.{eqb}
-use lib.ListN.{length, getD, set, drop, replicate}
-use lib.Seq.{drop-set-lt, getD-set-same, getD-set-other, set-out}
+use lib.ListN.{drop, replicate}
+use lib.Seq.{drop-set-lt}
 use Rattle.codes.specs.Numbers.{unsound}
 use Rattle.settings.specs.Settings as settings
 use Rattle.settings.specs.declared.Settings.{Settings}
@@ -19,7 +15,7 @@ use Rattle.context.specs.Sound.{soundCompressor, emptyCompressor}
 use Rattle.context.proofs.CompressorSound.{sound-empty}
 use Rattle.context.specs.declared.compressor.CompressorContext.{CompressorContext}
 use Rattle.compressor.specs.declared.table.Table.{Table}
-use Rattle.compressor.specs.Table.{noContext, withContext, isEmpty, soundOf, emptyTable, unopened, openOf, openBy, Sound}
+use Rattle.compressor.specs.Table.{withContext, isEmpty, soundOf, emptyTable, unopened, openOf, openBy, Sound}
 
 ---- soundOf
 
@@ -39,17 +35,6 @@ module _ (t : Table) where
   soundOf-made s = rw (s .settings, s .contexts, s .rest)
 
 ---- withContext
-
--- what holds of the context at place i holds still when the one at place k is replaced, if it holds of the new one where i is k
-module _ (P : CompressorContext → Type 0) (cs : List CompressorContext) (k i : ℕ) (c : CompressorContext) (new : i ≡ k → P c)
-    (before : P (getD cs i noContext)) where
-  set-keeps-by : Dec (suc k ≤ length cs) → (b : Bool) → eqb i k ≡ b → P (getD (set cs k c) i noContext)
-  set-keeps-by (no out) b e = rw (set-out cs k c (omega arith)) before
-  set-keeps-by (yes there) true e = rw (eqb-true i k e, getD-set-same cs k c noContext there) (new (eqb-true i k e))
-  set-keeps-by (yes there) false e = rw (getD-set-other cs k i c noContext (eqb-false i k e)) before
-
-  pub set-keeps : P (getD (set cs k c) i noContext)
-  set-keeps = set-keeps-by (decLe (suc k) (length cs)) (eqb i k) refl
 
 -- a sound table stays sound when a context that the settings give is replaced by a sound one
 pub sound-withContext : (t : Table) (i : ℕ) (c : CompressorContext) → Sound t → i < t .settings .contexts

@@ -14,13 +14,25 @@ use Rattle.codes.specs.Difference.{difference, sum}
 use Rattle.codes.specs.DifferenceLaws.{sum-difference}
 use Rattle.context.specs.Field.{offPattern, counted, isDue, steps, movedOn}
 use Rattle.context.proofs.Relation.{Track, Seen, Near}
-use Rattle.context.proofs.Tests.{isDue-false}
+use Rattle.context.proofs.Tests.{cond-both, isDue-false}
 
 ---- difference
 
 pub difference-fits : (w a b : ℕ) → difference w a b < 2 ^ w
 unfolding difference
 difference-fits w a b = mod-lt _ (pow-pos w)
+
+---- movedOn
+
+sum-fits : (w a d : ℕ) → sum w a d < 2 ^ w
+unfolding sum
+sum-fits w a d = mod-lt _ (pow-pos w)
+
+-- a field lies within its width after a packet, if what was sent whole does
+pub movedOn-fits : (w g last delta : ℕ) (differs : Bool) (d : ℕ) (whole : Bool) (x : ℕ) → x < 2 ^ w
+    → movedOn w g last delta differs d whole x < 2 ^ w
+unfolding movedOn
+movedOn-fits w g last delta differs d whole x h = cond-both (λ (y : ℕ). y < 2 ^ w) whole x _ h (sum-fits w _ _)
 
 ---- offPattern
 

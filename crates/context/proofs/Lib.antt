@@ -11,5 +11,6 @@ pub mod Others
 pub mod SoundFacts
 pub mod CompressorSound
 pub mod DecompressorSound
+pub mod DecompressorRange
 pub mod PartsLaws
 pub mod Unfilled

@@ -5,7 +5,7 @@ use mathlib.Core.Path.{_≡_, refl, sym, subst}
 use mathlib.Core.Bool.{Bool, true, false, cond, _&&_, and-eq-true-iff}
 use mathlib.Core.List.{List, [], _∷_}
 use native.Mathlib.Omega.{arith}
-use lib.ListN.{length, getD, set, drop, replicate}
+use lib.ListN.{length, getD, set, drop, replicate, getD-replicate}
 use lib.Seq.{drop-set-lt}
 use Rattle.codes.specs.Numbers.{unsound}
 use Rattle.settings.specs.Settings as settings
@@ -14,7 +14,9 @@ use Rattle.settings.specs.declared.Settings.{Settings}
 use Rattle.context.specs.All.{all}
 use Rattle.context.proofs.AllLaws.{all-getD, all-set, all-replicate, all-dropped}
 use Rattle.context.specs.Sound.{soundDecompressor, soundDecompressorBy, unfilledSound, zeroList, emptyDecompressor}
+use Rattle.context.specs.Ranges.{ContextInRange}
 use Rattle.context.proofs.DecompressorSound.{sound-none}
+use Rattle.context.proofs.DecompressorRange.{range-none}
 use Rattle.context.specs.declared.decompressor.DecompressorContext.{DecompressorContext}
 use Rattle.decompressor.specs.declared.table.Table.{Table}
 use Rattle.decompressor.specs.Table.{noContext, contextAt, withContext, isEmpty, soundOf, Sound}
@@ -71,6 +73,10 @@ sound-emptyTable s e = record {
   contexts = all-replicate soundDecompressor 64 emptyDecompressor sound-none;
   rest = all-dropped isEmpty (s .contexts) (replicate 64 emptyDecompressor) (all-replicate isEmpty 64 emptyDecompressor refl);
 }
+
+-- every place holds a context in range; past the end stands noContext, whose list has no words
+pub range-emptyTable : (s : Settings) (i : ℕ) → i < 64 → ContextInRange (contextAt (emptyTable s) i)
+range-emptyTable s i h = rw (getD-replicate 64 i emptyDecompressor noContext h) range-none
 
 -- an opening that is accepted had settings in range, and leaves a table with nothing in it
 module _ (t : Table) (n k : ℕ) where

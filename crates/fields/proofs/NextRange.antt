@@ -18,8 +18,8 @@ use Rattle.codes.specs.Reading.{Reading, accepted, refused, has, byteAt, wordAt
 use Rattle.codes.specs.Reading.{readLong, readDelta, readBy, valueIn, codeAt}
 use Rattle.codes.specs.RoundTrip.{left-after}
 use Rattle.codes.proofs.BytesRead.{allBytes-byteAt}
-use Rattle.packet.specs.Ranges.{ListSound, ListInRange}
-use Rattle.packet.specs.RangesLaws.{zero-words}
+use Rattle.packet.specs.Ranges.{ListSound, ListInRange, Sendable}
+use Rattle.packet.specs.RangesLaws.{zero-words, sendable-zero}
 use Rattle.fields.specs.declared.place.Place.{Place}
 use Rattle.packet.specs.Refusal.{isAccepted}
 use Rattle.fields.specs.Place.{passed}
@@ -43,17 +43,33 @@ module _ (read : ℕ → Reading) (p : Place) (w : Bool) where
       by true e = taken-within n (read (p .cursor .at)) _ (h (p .cursor .at)) k refl
       by false e = k
 
-  taken-value : (Q : ℕ → Type 0) (r : Reading) (b : Bool) → Q 0 → Q (r .value) → eqb (r .number) 0 ≡ b → Q (taken p r .value)
-  taken-value Q r true z h e = rw e h
-  taken-value Q r false z h e = rw e z
+  taken-step : (Q : Bool → ℕ → Type 0) (r : Reading) (b : Bool) → Q false 0 → Q true (r .value) → eqb (r .number) 0 ≡ b
+      → Q (taken p r .sent) (taken p r .value)
+  taken-step Q r true z h e = rw e h
+  taken-step Q r false z h e = rw e z
+
+  next-step : (Q : Bool → ℕ → Type 0) → Q false 0 → (w ≡ true → (at : ℕ) → Q true (read at .value))
+      → Q (next read p w .sent) (next read p w .value)
+  unfolding next
+  next-step Q z h = by (isAccepted (p .verdict) && w) refl
+    where
+      by : (b : Bool) → (isAccepted (p .verdict) && w) ≡ b
+          → Q (cond b (taken p (read (p .cursor .at))) (passed p) .sent) (cond b (taken p (read (p .cursor .at))) (passed p) .value)
+      by true e =
+          taken-step Q (read (p .cursor .at)) _ z (h (and-eq-true-iff (isAccepted (p .verdict)) w .0 e .1) (p .cursor .at)) refl
+      by false e = z
 
   pub next-value : (Q : ℕ → Type 0) → Q 0 → ((at : ℕ) → Q (read at .value)) → Q (next read p w .value)
-  unfolding next
-  next-value Q z h = by (isAccepted (p .verdict) && w) refl
-    where
-      by : (b : Bool) → (isAccepted (p .verdict) && w) ≡ b → Q (cond b (taken p (read (p .cursor .at))) (passed p) .value)
-      by true e = taken-value Q (read (p .cursor .at)) _ z (h (p .cursor .at)) refl
-      by false e = z
+  next-value Q z h = next-step (λ sent x. Q x) z (λ e. h)
+
+  -- a field that was read can be sent again
+  next-sendable : (n : ℕ) → ((at : ℕ) → read at .value < 2 ^ n) → Sendable n (next read p w .sent) (next read p w .value)
+  next-sendable n h = next-step (Sendable n) (sendable-zero n false) (λ e at. record { fits = h at; blank = refl })
+
+  -- and its value alone, as that of a field which is sent where it was wanted
+  next-wanted : (n : ℕ) → ((at : ℕ) → read at .value < 2 ^ n) → Sendable n w (next read p w .value)
+  next-wanted n h =
+      next-step (λ sent x. Sendable n w x) (sendable-zero n w) (λ e at. record { fits = h at; blank = rw e })
 
 ---- the readers: never past the end
 
@@ -253,13 +269,13 @@ module _ (s : List ℕ) (p : Place) (within : p .cursor .at ≤ length s) where
   nextVersion-within = next-within (readVersion s) p true (length s) (readVersion-within s) within
 
 module _ (s : List ℕ) (p : Place) (w : Bool) where
-  pub nextDelta16-value : nextDelta16 s p w .field .value < 2 ^ 16
+  pub nextDelta16-sendable : Sendable 16 (nextDelta16 s p w .field .sent) (nextDelta16 s p w .field .value)
   unfolding nextDelta16
-  nextDelta16-value = next-value (readDelta 16 s) p w (λ x. x < 2 ^ 16) (omega arith) (readDelta16-value s)
+  nextDelta16-sendable = next-sendable (readDelta 16 s) p w 16 (readDelta16-value s)
 
-  pub nextDelta32-value : nextDelta32 s p w .field .value < 2 ^ 32
+  pub nextDelta32-sendable : Sendable 32 (nextDelta32 s p w .field .sent) (nextDelta32 s p w .field .value)
   unfolding nextDelta32
-  nextDelta32-value = next-value (readDelta 32 s) p w (λ x. x < 2 ^ 32) (omega arith) (readDelta32-value s)
+  nextDelta32-sendable = next-sendable (readDelta 32 s) p w 32 (readDelta32-value s)
 
   pub nextDelta32-coded : hasCode 32 (nextDelta32 s p w .field .value) ≡ true
   unfolding nextDelta32
@@ -269,18 +285,26 @@ module _ (s : List ℕ) (p : Place) (w : Bool) where
   unfolding nextPayload
   nextPayload-value = next-value (readPayload s) p w (λ x. x < 128) (omega arith) (readPayload-value s)
 
+  pub nextPayload-sendable : Sendable 7 (nextPayload s p w .field .sent) (nextPayload s p w .field .value)
+  unfolding nextPayload
+  nextPayload-sendable = next-sendable (readPayload s) p w 7 (readPayload-value s)
+
 module _ (s : List ℕ) (all : AllBytes s) (p : Place) (w : Bool) where
   pub nextByte-value : nextByte s p w .field .value < 256
   unfolding nextByte
   nextByte-value = next-value (readByte s) p w (λ x. x < 256) (omega arith) (readByte-value s all)
 
-  pub nextWord-value : nextWord s p w .field .value < 2 ^ 16
+  pub nextWord-sendable : Sendable 16 (nextWord s p w .field .sent) (nextWord s p w .field .value)
   unfolding nextWord
-  nextWord-value = next-value (readWord s) p w (λ x. x < 2 ^ 16) (omega arith) (readWord-value s all)
+  nextWord-sendable = next-sendable (readWord s) p w 16 (readWord-value s all)
 
-  pub nextLong-value : nextLong s p w .field .value < 2 ^ 32
+  pub nextWord-wanted : Sendable 16 w (nextWord s p w .field .value)
+  unfolding nextWord
+  nextWord-wanted = next-wanted (readWord s) p w 16 (readWord-value s all)
+
+  pub nextLong-sendable : Sendable 32 (nextLong s p w .field .sent) (nextLong s p w .field .value)
   unfolding nextLong
-  nextLong-value = next-value (readLong s) p w (λ x. x < 2 ^ 32) (omega arith) (readLong-value s all)
+  nextLong-sendable = next-sendable (readLong s) p w 32 (readLong-value s all)
 
 ---- the CSRC list
 
@@ -331,7 +355,7 @@ module _ (s : List ℕ) (all : AllBytes s) (p : Place) where
   list-small zero i = zero-words 15 i
   list-small (suc n) i =
       set-within (nextList s p n .list .words) (nextList s p n .list .count) (nextLong s (nextList s p n .place) true .field .value)
-      (2 ^ 32) (nextLong-value s all (nextList s p n .place) true) (list-small n) i
+      (2 ^ 32) (nextLong-sendable s all (nextList s p n .place) true .fits) (list-small n) i
 
   pub nextList-range : (n : ℕ) → n ≤ 15 → ListInRange (nextList s p n .list)
   nextList-range n h = let l = nextList-sound s p n h in

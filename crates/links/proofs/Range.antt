@@ -1,14 +1,16 @@
 -- Iarwennol. What the readers of CU and CR give, whatever the bytes: never a place past the end, and parts in range. Assumes
--- nothing.
--- Used by the soundness of the decompressor's contexts.
-use Prim.Native.Nat.{ℕ, _≤_, _<_}
+-- nothing; that each part is within its width asks for bytes that are bytes (AllBytes).
+-- Used by the soundness and the ranges of the decompressor's contexts.
+use Prim.Native.Nat.{ℕ, _^_, _≤_, _<_}
 use mathlib.Core.Path.{_≡_, refl}
 use mathlib.Core.Bool.{Bool, true, false}
 use mathlib.Core.List.{List}
 use native.Mathlib.Omega.{arith}
 use lib.ListN.{length}
+use Rattle.codes.specs.Bytes.{AllBytes}
 use Rattle.codes.specs.Difference.{hasCode}
-use Rattle.packet.specs.Ranges.{ListSound, HeaderSound, PartsSound}
+use Rattle.packet.specs.Ranges.{ListSound, HeaderFits, HeaderSound, Sendable, PartsFit, PartsSound}
+use Rattle.packet.specs.RangesLaws.{range-noList, sendable-zero}
 use Rattle.bytes.specs.declared.flags.Flags.{Flags}
 use Rattle.bytes.specs.Flags.{flagsOf}
 use Rattle.headers.specs.declared.rtp.RtpFirst.{RtpFirst}
@@ -20,7 +22,8 @@ use Rattle.links.specs.declared.cu.CuSecond.{CuSecond}
 use Rattle.links.specs.declared.cr.CrFlags.{CrFlags}
 use Rattle.fields.proofs.NextRange.{nextByte-within, nextWord-within, nextLong-within, nextDelta16-within, nextDelta32-within}
 use Rattle.fields.proofs.NextRange.{nextPayload-within, nextVersion-within, nextList-within, nextDelta32-coded, nextPayload-value}
-use Rattle.fields.proofs.NextRange.{nextList-sound}
+use Rattle.fields.proofs.NextRange.{nextWord-sendable, nextWord-wanted, nextLong-sendable, nextDelta16-sendable}
+use Rattle.fields.proofs.NextRange.{nextDelta32-sendable, nextPayload-sendable, nextList-sound, nextList-range}
 use Rattle.links.specs.declared.cr.Second.{Second}
 use Rattle.links.specs.declared.whole.Fixed.{Fixed}
 use Rattle.links.specs.Cu.{cuFlagsOf, cuSecondOf, changesOf, valuesOf, cuRest, cuOf}
@@ -188,3 +191,90 @@ module _ (s : List ℕ) where
   pub wholeOf-header : (p : Place) (f : Flags) (carried : Bool) → HeaderSound (wholeOf s p f carried .header)
   unfolding wholeOf
   wholeOf-header p f carried = rtpOf-sound (changesOf s p (cuFlagsOf f) carried .place)
+
+-- where the bytes are bytes: each part by its width
+module _ (s : List ℕ) (all : AllBytes s) where
+  ---- CU with F
+
+  cuRest-range : (p : Place) (f : CuFlags) (g : CuSecond) (carried : Bool) → g .count < 16
+      → PartsFit carried (cuRest s p f g carried .parts)
+  unfolding cuRest changesOf valuesOf
+  cuRest-range p f g carried h = record {
+    checksum = nextWord-wanted s all p carried;
+    id = nextWord-sendable s all _ (f .id);
+    sequence = nextWord-sendable s all _ (g .sequence);
+    timestamp = nextLong-sendable s all _ (g .timestamp);
+    payload = nextPayload-sendable s _ (g .payload);
+    did = nextDelta16-sendable s _ (f .did);
+    dsn = sendable-zero 16 false;
+    dts = nextDelta32-sendable s _ (f .dts);
+    coded = λ e. nextDelta32-coded s _ (f .dts);
+    list = nextList-range s all _ (g .count) (omega arith);
+  }
+
+  pub cuOf-range : (p : Place) (f : Flags) (carried : Bool) → PartsFit carried (cuOf s p f carried .parts)
+  unfolding cuOf
+  cuOf-range p f carried = cuRest-range (nextByte s p true .place) (cuFlagsOf f)
+      (cuSecondOf (flagsOf (nextByte s p true .field .value))) carried (omega arith)
+
+  ---- CR
+
+  crRest-range : (carried : Bool) (checksum : ℕ) (n : Second) → Sendable 16 carried checksum → n .count < 16
+      → PartsFit carried (crRest s checksum n .parts)
+  unfolding crRest deltasOf
+  crRest-range carried checksum n c h = record {
+    checksum = c;
+    id = sendable-zero 16 false;
+    sequence = sendable-zero 16 false;
+    timestamp = sendable-zero 32 false;
+    payload = sendable-zero 7 false;
+    did = nextDelta16-sendable s _ (n .flags .did);
+    dsn = nextDelta16-sendable s _ (n .flags .dsn);
+    dts = nextDelta32-sendable s _ (n .flags .dts);
+    coded = λ e. nextDelta32-coded s _ (n .flags .dts);
+    list = nextList-range s all _ (n .count) (omega arith);
+  }
+
+  pub crOf-range : (p : Place) (f : Flags) (carried : Bool) → PartsFit carried (crOf s p f carried .parts)
+  unfolding crOf
+  crOf-range p f carried =
+      crRest-range carried (nextWord s p carried .field .value) (secondOf s (nextWord s p carried .place) (crFlagsOf f))
+      (nextWord-wanted s all p carried) (secondOf-count s (nextWord s p carried .place) (crFlagsOf f))
+
+  ---- CU without F
+
+  rtpRest-range : (x : Fixed) (f : RtpFirst) → f .count < 16 → x .sequence < 2 ^ 16 → x .timestamp < 2 ^ 32 → x .ssrc < 2 ^ 32
+      → HeaderFits (rtpRest s x f .header)
+  unfolding rtpRest
+  rtpRest-range x f h q t r = record {
+    payload = omega arith;
+    sequence = q;
+    timestamp = t;
+    ssrc = r;
+    list = nextList-range s all (x .place) (f .count) (omega arith);
+  }
+
+  rtpOf-range : (p : Place) → HeaderFits (rtpOf s p .header)
+  unfolding rtpOf fixedOf
+  rtpOf-range p =
+      rtpRest-range (fixedOf s p) (rtpFirstOf (fixedOf s p .first)) (omega arith)
+      (nextWord-sendable s all _ true .fits) (nextLong-sendable s all _ true .fits) (nextLong-sendable s all _ true .fits)
+
+  pub wholeOf-range : (p : Place) (f : Flags) (carried : Bool) → PartsFit carried (wholeOf s p f carried .parts)
+  unfolding wholeOf changesOf
+  wholeOf-range p f carried = record {
+    checksum = nextWord-wanted s all p carried;
+    id = nextWord-sendable s all _ (cuFlagsOf f .id);
+    sequence = sendable-zero 16 false;
+    timestamp = sendable-zero 32 false;
+    payload = sendable-zero 7 false;
+    did = nextDelta16-sendable s _ (cuFlagsOf f .did);
+    dsn = sendable-zero 16 false;
+    dts = nextDelta32-sendable s _ (cuFlagsOf f .dts);
+    coded = λ e. nextDelta32-coded s _ (cuFlagsOf f .dts);
+    list = range-noList;
+  }
+
+  pub wholeOf-header-range : (p : Place) (f : Flags) (carried : Bool) → HeaderFits (wholeOf s p f carried .header)
+  unfolding wholeOf
+  wholeOf-header-range p f carried = rtpOf-range (changesOf s p (cuFlagsOf f) carried .place)
