@@ -5,3 +5,4 @@ pub mod KeptLaws
 pub mod FixedLaws
 pub mod RecordLaws
 pub mod SavesLaws
+pub mod ReadLaws

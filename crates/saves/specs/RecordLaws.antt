@@ -166,11 +166,11 @@ module _ (c : DecompressorContext) (filled : c .filled ≡ true) (b : FilledBoun
 ---- Written and read: a context that was never filled
 
 -- a broken one has all its fields, which are 0, and no header; an empty one has its state alone
-from-empty : (s : List ℕ) (at : ℕ) → recordFrom s (fixed at 0 0 0 0 0 0) ≡ record { place = good at; context = blank Empty }
+pub from-empty : (s : List ℕ) (at : ℕ) → recordFrom s (fixed at 0 0 0 0 0 0) ≡ record { place = good at; context = blank Empty }
 unfolding sizeAllowed checked headerFrom contextOf
 from-empty s at = refl
 
-from-broken : (s : List ℕ) (at : ℕ) → recordFrom s (fixed at 2 0 0 0 0 0) ≡ record { place = good at; context = blank Broken }
+pub from-broken : (s : List ℕ) (at : ℕ) → recordFrom s (fixed at 2 0 0 0 0 0) ≡ record { place = good at; context = blank Broken }
 unfolding sizeAllowed checked headerFrom contextOf
 from-broken s at = refl
 
