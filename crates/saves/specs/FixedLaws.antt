@@ -14,6 +14,7 @@ use Rattle.codes.specs.Bytes.{AllBytes, bigEndian}
 use Rattle.codes.specs.Difference.{hasCode}
 use Rattle.codes.specs.Reading.{byteAt, wordAt, longAt}
 use Rattle.codes.proofs.BytesRead.{allBytes-drop, wordAt-lt, longAt-lt, bigEndian-wordAt, bigEndian-longAt, places-drop}
+use Rattle.fields.specs.declared.place.Place.{Place}
 use Rattle.fields.specs.declared.place.Got8.{Got8}
 use Rattle.fields.specs.declared.place.Got16.{Got16}
 use Rattle.fields.specs.declared.place.Got32.{Got32}
@@ -113,6 +114,17 @@ pub data FixedRead (s : List ℕ) (at : ℕ) (f : Fixed) : Type 0 where
   used : at + 10 ≤ length s → FixedFits (standing s at) → f ≡ standing s at → FixedRead s at f
 
 -- a reading that was not refused at the size was not refused before it
+pub fixedOf-goes : (s : List ℕ) (p : Place) → Goes (fixedOf s p .place) → Goes p
+unfolding fixedOf
+fixedOf-goes s p x =
+    nextUpTo-goes s p true 2 (
+    nextUpTo-goes s _ _ 63 (
+    nextUpTo-goes s _ _ 15 (
+    nextWord-goes s _ _ (
+    nextLong-goes s _ _ (
+    allowed-goes _ _ (
+    nextByte-goes s _ _ x) .0))) .0) .0) .0
+
 module _ (s : List ℕ) (at : ℕ) (x : Goes (fixedOf s (good at) .place)) where
   abbrev state : Got8
   state = nextUpTo s (good at) true 2

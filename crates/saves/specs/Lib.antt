@@ -6,3 +6,4 @@ pub mod FixedLaws
 pub mod RecordLaws
 pub mod SavesLaws
 pub mod ReadLaws
+pub mod LoadLaws

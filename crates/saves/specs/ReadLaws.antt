@@ -40,7 +40,7 @@ use Rattle.saves.specs.Saves.{recordFrom, recordOf}
 use Rattle.saves.specs.StepLaws.{Goes, checked-passed, allowed-goes}
 use Rattle.saves.specs.KeptLaws.{marked, GoodHeader, HeaderRead, headerFrom-read}
 use Rattle.saves.specs.FixedLaws.{fixed, FixedFits, fixedBytes, standing, FixedRead, empty, used, fixedOf-read}
-use Rattle.saves.specs.FixedLaws.{fixedBytes-standing}
+use Rattle.saves.specs.FixedLaws.{fixedOf-goes, fixedBytes-standing}
 use Rattle.saves.specs.RecordLaws.{from-empty, from-broken}
 
 ---- The context of fields and header that were read
@@ -170,6 +170,15 @@ header-by s p n false b e x = x
 pub headerFrom-goes : (s : List ℕ) (p : Place) (n : ℕ) → Goes (headerFrom s p n .place) → Goes p
 unfolding headerFrom
 headerFrom-goes s p n x = header-by s p n (isAccepted (p .verdict)) (not (eqb n 0)) refl x
+
+from-goes : (s : List ℕ) (f : Fixed) → Goes (recordFrom s f .place) → Goes (f .place)
+from-goes s f x =
+    allowed-goes (f .place) (sizeAllowed f) (headerFrom-goes s (allowed (f .place) (sizeAllowed f)) (f .size) x) .0
+
+-- a reading that was not refused in a record was not refused before it
+pub recordOf-goes : (s : List ℕ) (p : Place) → Goes (recordOf s p .place) → Goes p
+unfolding recordOf
+recordOf-goes s p x = fixedOf-goes s p (from-goes s (fixedOf s p) x)
 
 ---- a context that is empty, or was never filled
 
@@ -319,9 +328,4 @@ module _ (s : List ℕ) (at : ℕ) where
   -- a record that was accepted
   pub recordOf-read : AllBytes s → Goes (recordOf s (good at) .place) → RecordRead s at (recordOf s (good at))
   unfolding recordOf
-  recordOf-read a x = read-from a (fixedOf s (good at)) (fixedOf-read s at (goes-fixed x) a) x
-    where
-      goes-fixed : Goes (recordFrom s (fixedOf s (good at)) .place) → Goes (fixedOf s (good at) .place)
-      goes-fixed y =
-          let f = fixedOf s (good at) in
-          allowed-goes (f .place) (sizeAllowed f) (headerFrom-goes s (allowed (f .place) (sizeAllowed f)) (f .size) y) .0
+  recordOf-read a x = read-from a (fixedOf s (good at)) (fixedOf-read s at (from-goes s (fixedOf s (good at)) x) a) x
