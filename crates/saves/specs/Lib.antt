@@ -7,3 +7,4 @@ pub mod RecordLaws
 pub mod SavesLaws
 pub mod ReadLaws
 pub mod LoadLaws
+pub mod FileLaws

@@ -242,7 +242,7 @@ module _ (s : List ℕ) where
 ---- A load that was accepted
 
 -- a number of 0 is that of no refusal
-zero-accepted : (v : Verdict) → verdictNumber v ≡ 0 → isAccepted v ≡ true
+pub zero-accepted : (v : Verdict) → verdictNumber v ≡ 0 → isAccepted v ≡ true
 zero-accepted Accepted e = refl
 zero-accepted (Refused r) e = absurd (omega (arith, e, numberOf-least r))
 
