@@ -1,4 +1,5 @@
 pub mod Saves
+pub mod Cases
 pub mod SizeLaws
 pub mod StepLaws
 pub mod KeptLaws
