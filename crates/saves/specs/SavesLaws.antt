@@ -198,9 +198,20 @@ module _ (t : Table) (f : TableFits t) where
   pub load-saved : (u : Table) → loadOf u (savedBytes t) ≡ accepted t [] []
   load-saved u = loadOf-saved (savedBytes t) refl u
 
----- A save that was accepted
+---- A save
 
--- what it gave out is the table's bytes
+save-table : (t : Table) (bytes output : List ℕ) (a b : Bool)
+    → cond a (cond b (refused t noRoom output) (accepted t bytes output)) (refused t unsound output) .table ≡ t
+save-table t bytes output true true = refl
+save-table t bytes output true false = refl
+save-table t bytes output false b = refl
+
+-- rule 14.4: it leaves the table
+pub table-saveOf : (t : Table) (output : List ℕ) → saveOf t output .table ≡ t
+unfolding saveOf
+table-saveOf t output = save-table t (savedBytes t) output (soundOf t) (ltb (length output) (length (savedBytes t)))
+
+-- accepted, what it gave out is the table's bytes
 delivered-bytes : (t : Table) (bytes output : List ℕ) (b : Bool)
     → let r = cond b (refused t noRoom output) (accepted t bytes output) in
     r .number ≡ 0 → take (r .length) (r .output) ≡ bytes
