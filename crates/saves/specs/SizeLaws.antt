@@ -42,7 +42,8 @@ narrow-filled c e =
 
 zeroIp-flags : (c : DecompressorContext) → zeroIp (c .ip) ≡ true → c .ip .flags ≡ 0
 zeroIp-flags c e =
-    let a = all-of-eight true true true true (eqb (c .ip .tos) 0) (eqb (c .ip .ttl) 0) (eqb (c .ip .flags) 0) (eqb (c .ip .id) 0) e in
+    let a = all-of-eight true true true true (eqb (c .ip .tos) 0) (eqb (c .ip .ttl) 0) (eqb (c .ip .flags) 0)
+    (eqb (c .ip .id) 0) e in
     eqb-true (c .ip .flags) 0 (a .6)
 
 zeroRtp-payload : (c : DecompressorContext) → zeroRtp (c .rtp) ≡ true → c .rtp .payload ≡ 0
@@ -130,7 +131,8 @@ module _ (l : List DecompressorContext) (i : ℕ) where
       → recordsBytes (take (i + 1) l) ≡ recordsBytes (take i l) ++ recordBytes (getD l i d)
   recordsBytes-more d h =
       rw (add-one, take-suc l i d h)
-      (recordsBytes-append (take i l) (getD l i d ∷ []) ∙ ap (λ r. recordsBytes (take i l) ++ r) (append-nil (recordBytes (getD l i d))))
+      (recordsBytes-append (take i l) (getD l i d ∷ [])
+      ∙ ap (λ r. recordsBytes (take i l) ++ r) (append-nil (recordBytes (getD l i d))))
 
 -- the first of them are no more than all
 pub recordsBytes-few : (l : List DecompressorContext) (i n : ℕ) → i ≤ n
@@ -153,7 +155,8 @@ recordsBytes-most (c ∷ l) (suc n) e =
 
 ---- savedBytes
 
-pub length-savedBytes : (t : Table) → length (savedBytes t) ≡ 5 + length (recordsBytes (take (t .settings .contexts) (t .contexts)))
+pub length-savedBytes : (t : Table)
+    → length (savedBytes t) ≡ 5 + length (recordsBytes (take (t .settings .contexts) (t .contexts)))
 unfolding savedBytes
 length-savedBytes t = omega arith
 
