@@ -7,6 +7,8 @@ mod OneContext
 mod Laws
 pub mod FullHeader
 pub mod Robust
+pub mod Unsaved
 pub mod Alike
 mod Calm
+mod Tested
 pub mod Example
