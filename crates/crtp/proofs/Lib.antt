@@ -1,5 +1,5 @@
 -- Iarwennol. The theorem, and what it rests on.
-mod Lists
+pub mod Lists
 mod Arrivals
 mod Tables
 mod Given

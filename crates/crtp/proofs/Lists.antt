@@ -1,6 +1,6 @@
 -- Iarwennol. The statement over bytes is the claim about lists of calls at two ends that are named here. Assumes nothing.
 -- Used by the theorem (Robust), its corollary (Alike) and the claim without saves (Unsaved); the laws of the two ends are in Laws.
-use Prim.Native.Nat.{ℕ, zero, suc}
+use Prim.Native.Nat.{ℕ, zero, suc, _<_}
 use mathlib.Core.Path.{_≡_, refl, sym, ap, _∙_, subst}
 use mathlib.Core.Bool.{Bool, true, false, cond}
 use mathlib.Core.List.{List, [], _∷_, _++_, map, map-append}
@@ -217,7 +217,7 @@ module _ (n : ℕ) where
   allowed-ends c w (request q) a = tt
   allowed-ends c w (arrival i output) a = proper-ends c w i a
   allowed-ends c w (save output) a = tt
-  allowed-ends c w (load i handed) a = rw (length-map (w .saves) savedOf) at a
+  allowed-ends c w (load i handed) a = subst (λ (k : ℕ). i < k) (length-map (w .saves) savedOf) a
   allowed-ends c w other a = tt
 
   -- and back, from every context number
@@ -233,7 +233,7 @@ module _ (n : ℕ) where
   allowed-worldOf w (request q) a = tt
   allowed-worldOf w (arrival i output) a = proper-worldOf w i a
   allowed-worldOf w (save output) a = tt
-  allowed-worldOf w (load i handed) a = rw (length-map (w .saves) savedOf) (a 0)
+  allowed-worldOf w (load i handed) a = subst (λ (k : ℕ). i < k) (sym (length-map (w .saves) savedOf)) (a 0)
   allowed-worldOf w other a = tt
 
 ---- The claim
