@@ -26,7 +26,7 @@ module _ {P L B Q F C D SA RA : Type 0} (ε : Ends P L B Q F C D SA RA) where
     always-keep S K f (x ∷ xs) w k a = (f w x k (a .0) .0, always-keep S K f xs (step ε w x) (f w x k (a .0) .1) (a .1))
 
   -- for every context number
-  always-each : (R : ℕ → World P L F C D → Call P B Q D → Type 0) (xs : List (Call P B Q D)) (w : World P L F C D) →
+  pub always-each : (R : ℕ → World P L F C D → Call P B Q D → Type 0) (xs : List (Call P B Q D)) (w : World P L F C D) →
       ((c : ℕ) → Always ε (R c) w xs) → Always ε (λ v x. (c : ℕ) → R c v x) w xs
   always-each R [] w a = tt
   always-each R (x ∷ xs) w a = (λ c. a c .0, always-each R xs (step ε w x) (λ c. a c .1))

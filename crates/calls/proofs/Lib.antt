@@ -6,3 +6,4 @@ mod Marks
 mod Linked
 pub mod Faithful
 pub mod Earlier
+pub mod Literal

@@ -1,12 +1,13 @@
--- Iarwennol. The list of specs/Example.antt meets the premises, and its answers are computed. Assumes nothing.
--- So the theorem is about something: a lost full header, a lost CU, an arrival without room, a late arrival, a plain packet.
+-- Iarwennol. Lists of calls that meet the premises and lists that miss them, with their answers computed. Assumes nothing.
+-- So the theorems are about something: a lost full header, a lost CU, an arrival without room, a late arrival, a plain packet, a
+-- save and a load of it.
 use Prim.Native.Nat.{ℕ, _≤_}
 use mathlib.Core.Path.{_≡_, refl}
 use mathlib.Core.Bool.{Bool, true, false}
-use mathlib.Core.List.{List, [], _∷_}
+use mathlib.Core.List.{List, [], _∷_, _++_, map}
 use borrow.Author.Tests.{eqb-true}
 use lib.Dec.{eqb, lit≤}
-use lib.ListN.{replicate}
+use lib.ListN.{take, replicate}
 use Rattle.codes.specs.Bytes.{areBytes}
 use Rattle.codes.specs.BytesLaws.{allBytes-areBytes}
 use Rattle.compressor.specs.Table as compressing
@@ -40,16 +41,25 @@ use Rattle.links.specs.Cu.{cuBytes, changesOf, valuesOf, cuRest, cuOf}
 use Rattle.links.specs.Fh.{fhBytes, fieldsForm, fhJudged, fhOf}
 use Rattle.links.specs.Head.{headOf}
 use Rattle.packet.specs.Csrc.{sameList}
-use Rattle.crtp.specs.Robust.{Bytes, Call, send, request, arrival, other, World, Sent, after, Ordered, losses, Bounded}
-use Rattle.crtp.specs.Robust.{Opened, Premises}
+use Rattle.saves.specs.Saves.{checked, nextUpTo, keptForm, headerFrom, recordBytes, fixedOf, sizeAllowed, contextOf, recordOf}
+use Rattle.saves.specs.Saves.{wholeOf, frontOf, savedBytes, saveOf, loadOf}
+use Rattle.crtp.specs.Robust as robust
+use Rattle.crtp.specs.Robust.{Bytes, Sent, Bounded, Opened}
+use Rattle.crtp.specs.Unsaved.{Call, send, request, arrival, other, World, after, Ordered, losses, Premises}
+use Rattle.crtp.specs.Example.{packet0, packet1, packet2, packet3, packet4, packet5, packet6, packet7, packet8, odd, asks}
+use Rattle.crtp.specs.Example.{asksFirst, Shown, answers}
 use Rattle.crtp.proofs.Calm.{bounded-calm}
-use Rattle.crtp.specs.Example.{packet0, packet1, packet2, packet3, packet4, packet5, odd, asks, asksFirst, Shown, answers}
+use Rattle.crtp.proofs.Tested.{areAllowed, all-tested}
+use Rattle.crtp.proofs.Unsaved.{asRobust}
 
 abbrev pub bytes : (l : List ℕ) → areBytes l ≡ true → Bytes
 bytes l e = record { list = l; small = allBytes-areBytes l e }
 
 abbrev pub wide : Bytes
 wide = bytes (replicate 44 0xAA) refl
+
+abbrev roomy : Bytes
+roomy = bytes (replicate 60 0xAA) refl
 
 abbrev pub narrow : Bytes
 narrow = bytes (replicate 10 0xAA) refl
@@ -108,24 +118,76 @@ missed =
     ∷ other
     ∷ []
 
+-- the first list again, with the decompressor's table saved at its end. The first save has no room, so the second is the 0th
+abbrev saving : List robust.Call
+saving = map asRobust list ++ (robust.save narrow ∷ robust.save roomy ∷ [])
+
+-- after it a packet arrives, then the table is loaded, and that packet is lost; the next two are rebuilt
+abbrev restored : List robust.Call
+restored =
+    saving
+    ++ (robust.send (bytes packet6 refl) wide
+    ∷ robust.arrival 7 wide
+    ∷ robust.load 0 decompressing.unopened
+    ∷ robust.send (bytes packet7 refl) wide
+    ∷ robust.arrival 8 wide
+    ∷ robust.send (bytes packet8 refl) wide
+    ∷ robust.arrival 9 wide
+    ∷ [])
+
+-- two packets arrive before the load, and are lost
+abbrev undoing : List robust.Call
+undoing =
+    saving
+    ++ (robust.send (bytes packet6 refl) wide
+    ∷ robust.arrival 7 wide
+    ∷ robust.send (bytes packet7 refl) wide
+    ∷ robust.arrival 8 wide
+    ∷ robust.load 0 decompressing.unopened
+    ∷ robust.send (bytes packet8 refl) wide
+    ∷ [])
+
+abbrev undone : List robust.Call
+undone = undoing ++ (robust.arrival 9 wide ∷ [])
+
+abbrev origin : robust.World
+origin = robust.fresh (start .compressor) (start .decompressor)
+
 abbrev pub shown : ℕ → List ℕ → Shown
 shown n b = record { number = n; bytes = b }
 
--- the types of what was given out: two full headers, two CU, two full headers by request, one plain packet
+-- the types of what was given out
 abbrev kinds : List Sent → List ℕ
 kinds [] = []
 kinds (e ∷ es) = e .kind ∷ kinds es
 
--- what is computed of the first list: its answers, those types, what is lost on context 0 and on another; and its arrivals are in
--- order. Of the other: its answer, and what is lost
+-- what is lost on context 0 when a packet arrives
+abbrev gone : robust.World → (i : ℕ) → List Bool
+gone w i = robust.losses 0 (w .line) 0 (take i (w .sent))
+
 pub record Computed : Type 0 where
-  answered : answers start list ≡ shown 0 packet1 ∷ shown 0 packet3 ∷ shown 11 [] ∷ shown 0 packet5 ∷ shown 0 odd ∷ []
-  given : kinds (after start list .sent) ≡ 1 ∷ 1 ∷ 2 ∷ 2 ∷ 1 ∷ 1 ∷ 0 ∷ []
+  -- of the first list what is lost on context 0 and on another; and its arrivals are in order. Of the second its answer, and what
+  -- is lost
   on : losses 0 list 0 (after start list .sent) ≡ true ∷ false ∷ true ∷ false ∷ true ∷ false ∷ []
   off : (c : ℕ) → eqb 0 c ≡ false → losses c list 0 (after start list .sent) ≡ []
   ordered : Ordered start 0 list
-  pub refused : answers start missed ≡ shown 8 [] ∷ []
-  gone : losses 0 missed 0 (after start missed .sent) ≡ true ∷ true ∷ true ∷ false ∷ []
+  pub refused : answers origin (map asRobust missed) ≡ shown 8 [] ∷ []
+  missing : losses 0 missed 0 (after start missed .sent) ≡ true ∷ true ∷ true ∷ false ∷ []
+  -- of the list with a save and a load of it: its answers, and the types: two full headers, two CU, two full headers by request,
+  -- one plain packet, two CU, one CR; and it is allowed
+  answered :
+      answers origin restored
+      ≡ shown 0 packet1 ∷ shown 0 packet3 ∷ shown 11 [] ∷ shown 0 packet5 ∷ shown 0 odd
+      ∷ shown 0 packet6 ∷ shown 0 packet7 ∷ shown 0 packet8 ∷ []
+  given : kinds (robust.after origin restored .sent) ≡ 1 ∷ 1 ∷ 2 ∷ 2 ∷ 1 ∷ 1 ∷ 0 ∷ 2 ∷ 2 ∷ 3 ∷ []
+  allowed : areAllowed 1 origin restored ≡ true
+  -- of the last list its answers, and what is lost at its last arrival
+  stale :
+      answers origin undone
+      ≡ shown 0 packet1 ∷ shown 0 packet3 ∷ shown 11 [] ∷ shown 0 packet5 ∷ shown 0 odd
+      ∷ shown 0 packet6 ∷ shown 0 packet7 ∷ shown 9 [] ∷ []
+  forgotten :
+      gone (robust.after origin undoing) 9 ≡ true ∷ false ∷ true ∷ false ∷ true ∷ false ∷ true ∷ true ∷ []
 
 pub computed : Computed
 unfolding compressing.soundOf decompressing.soundOf plus codeOf difference sum hasCode readByte readWord readLong readBy placeOf
@@ -137,25 +199,24 @@ unfolding compressing.soundOf decompressing.soundOf plus codeOf difference sum h
     emptyDecompressor receiveFull receiveOld receiveCompressed receiveKind receiveBy next readPayload nextByte nextWord nextLong
     nextDelta16 nextDelta32 nextPayload ipChecksumOf ipChecksum fixedForm compressible rtpAt flowOf ipOf headerOf ipFront ipBack
     udpBytes rtpFixed headerBytes crBytes secondWith secondOf deltasOf crRest crOf recordWith recordJudged requestJudged cuBytes
-    changesOf valuesOf cuRest cuOf fhBytes fieldsForm fhJudged fhOf headOf sameList
+    changesOf valuesOf cuRest cuOf fhBytes fieldsForm fhJudged fhOf headOf sameList checked nextUpTo keptForm headerFrom
+    recordBytes fixedOf sizeAllowed contextOf recordOf wholeOf frontOf savedBytes saveOf loadOf
 computed = record {
-  answered = refl;
-  given = refl;
   on = refl;
   off = λ c e. rw e;
   ordered = (lit≤ tt, lit≤ tt, (lit≤ tt, lit≤ tt, (lit≤ tt, lit≤ tt, (lit≤ tt, lit≤ tt, (lit≤ tt, lit≤ tt, tt)))));
   refused = refl;
-  gone = refl;
+  missing = refl;
+  answered = refl;
+  given = refl;
+  allowed = refl;
+  stale = refl;
+  forgotten = refl;
 }
 
 ---- The premises
 
-bounded-by : (c : ℕ) (b : Bool) → eqb 0 c ≡ b → Bounded 1 (losses c list 0 (after start list .sent))
-bounded-by c true e =
-    rw (← eqb-true 0 c e, computed .on) (bounded-calm 1 (true ∷ false ∷ true ∷ false ∷ true ∷ false ∷ []) refl)
-bounded-by c false e = rw (computed .off c e) (bounded-calm 1 [] refl)
-
-pub opened : Opened chosen start
+pub opened : Opened chosen (start .compressor) (start .decompressor)
 unfolding compressing.openOf decompressing.openOf settings.openOf
 opened = record {
   earlierC = start .compressor;
@@ -164,12 +225,24 @@ opened = record {
   acceptedD = refl;
   compressor = refl;
   decompressor = refl;
-  nothing = refl;
 }
 
-pub premises : Premises chosen start list
-premises = record { opened = opened; ordered = computed .ordered; bounded = λ c. bounded-by c (eqb 0 c) refl }
+bounded-by : (c : ℕ) (b : Bool) → eqb 0 c ≡ b → Bounded 1 (losses c list 0 (after start list .sent))
+bounded-by c true e =
+    rw (← eqb-true 0 c e, computed .on) (bounded-calm 1 (true ∷ false ∷ true ∷ false ∷ true ∷ false ∷ []) refl)
+bounded-by c false e = rw (computed .off c e) (bounded-calm 1 [] refl)
 
--- the other list loses more than it may
+pub premises : Premises chosen start list
+premises = record { opened = opened; nothing = refl; ordered = computed .ordered; bounded = λ c. bounded-by c (eqb 0 c) refl }
+
+-- the second list loses more than it may
 pub too-many : Bounded 1 (losses 0 missed 0 (after start missed .sent)) → ⊥
-too-many b = b [] (true ∷ false ∷ []) (computed .gone)
+too-many b = b [] (true ∷ false ∷ []) (computed .missing)
+
+-- with a save and a load
+premises-restored : robust.Premises chosen (start .compressor) (start .decompressor) restored
+premises-restored = record { opened = opened; allowed = all-tested 1 restored origin (computed .allowed) }
+
+-- with a load that undoes two packets, the arrival that follows is not as it may be
+too-many-undone : robust.Proper 1 (robust.after origin undoing) 9 → ⊥
+too-many-undone p = p .bounded 0 (true ∷ false ∷ true ∷ false ∷ true ∷ false ∷ []) [] (computed .forgotten)

@@ -1,10 +1,13 @@
 -- Iarwennol. The two ends meet the laws of the list theorem (calls), one context at a time. Assumes nothing.
 -- Used by the theorem (Robust).
 use Prim.Native.Nat.{ℕ, suc, _≤_, _<_}
-use mathlib.Core.Path.{_≡_, sym, subst}
-use mathlib.Core.Bool.{true, false}
-use mathlib.Core.Option.{none, some, Option·none-ne-some}
-use lib.ListN.{length}
+use mathlib.Core.Path.{_≡_, refl, sym, subst}
+use mathlib.Core.Bool.{Bool, true, false, cond}
+use mathlib.Core.List.{List}
+use mathlib.Core.Option.{none, some, Option·none-ne-some, Option·some-injective}
+use borrow.Author.Tests.{eqb-true}
+use lib.Dec.{eqb}
+use lib.ListN.{length, take}
 use Rattle.settings.specs.declared.Settings.{Settings}
 use Rattle.context.proofs.Relation.{Related}
 use Rattle.context.proofs.Others.{related-requested}
@@ -15,12 +18,15 @@ use Rattle.compressor.specs.SendLaws.{On}
 use Rattle.compressor.specs.Request.{requestOf}
 use Rattle.compressor.specs.RequestLaws.{request-asks}
 use Rattle.decompressor.specs.declared.table.Table as decompressor
+use Rattle.decompressor.specs.Answer as receiving
 use Rattle.decompressor.specs.Table as decompressing
 use Rattle.decompressor.specs.Receive.{receiveOf}
+use Rattle.saves.specs.Saves.{saveOf, loadOf}
+use Rattle.saves.specs.SavesLaws.{load-save}
 use Rattle.calls.specs.Calls as calls
 use Rattle.calls.proofs.Laws as calls·laws
 use Rattle.crtp.specs.Robust.{Bytes, Rebuilt}
-use Rattle.crtp.proofs.Lists.{Frame, frameOf, frameContext, ends}
+use Rattle.crtp.proofs.Lists.{Frame, frameOf, formOf, frameContext, ends}
 use Rattle.crtp.proofs.Tables.{SenderFit, ReceiverFit, RelatedAt, Rel, sender-send, sender-request, receiver-receive}
 use Rattle.crtp.proofs.Given.{Gave, gave, kept, gave-bytes, gave-here, gave-plainly}
 use Rattle.crtp.proofs.OneContext.{Accepts, here-lost, accepts-related, here-right, here-taken, here-lacks, here-stays}
@@ -140,6 +146,22 @@ module _ (s : Settings) where
       → frameOf (sendOf t (p .list) (output .list)) ≡ none → Rel s c j d t → Rel s c j d (next t p output)
   refuses c j d t p output e r = subst (λ (x : compressor.Table). Rel s c j d x) (sym (kept t (p .list) (output .list) e)) r
 
+  ---- A load of what a save gave out, handed any table
+
+  module _ (d : decompressor.Table) (receiver : ReceiverFit s d) (output : Bytes) (handed : decompressor.Table) where
+    abbrev saved : receiving.Result
+    saved = saveOf d (output .list)
+
+    loads-by : (b : Bool) (f : List ℕ) → eqb (saved .number) 0 ≡ b
+        → cond b (some (take (saved .length) (saved .output))) none ≡ some f → loadOf handed f .table ≡ d
+    loads-by true f e gives =
+        subst (λ (x : List ℕ). loadOf handed x .table ≡ d) (Option·some-injective _ f gives)
+        (load-save d handed (output .list) (receiver .sound) (receiver .size) (receiver .held) (eqb-true (saved .number) 0 e))
+    loads-by false f e gives = absurd (Option·none-ne-some f gives)
+
+    loads : (f : List ℕ) → formOf saved ≡ some f → loadOf handed f .table ≡ d
+    loads f gives = loads-by (eqb (saved .number) 0) f refl gives
+
   ---- The laws
 
   pub laws : calls·laws.Laws (s .repeats) ends (SenderFit s) (ReceiverFit s) (Rel s)
@@ -147,7 +169,7 @@ module _ (s : Settings) where
     asksStart = λ t q f. sender-request s t f q;
     sendsStart = λ t p b f. sender-send s t f p b;
     receivesFine = λ d t p b l f e g b′. received t p b l e d f g b′;
-    loads = λ d b f g e x. absurd (Option·none-ne-some f e);
+    loads = λ d b f g e x. loads d g b x f e;
     plains = λ d t p b l f e o g b′ room. plains t p b l e d f g b′ o room;
     plainLacks = λ d t p b l f e o g b′ short. plainLacks t p b l e d f g b′ o short;
     asks = asks;

@@ -1,5 +1,5 @@
 -- Iarwennol. The theorem, and what it rests on.
-mod Lists
+pub mod Lists
 mod Arrivals
 mod Tables
 mod Given
@@ -7,6 +7,8 @@ mod OneContext
 mod Laws
 pub mod FullHeader
 pub mod Robust
+pub mod Unsaved
 pub mod Alike
 mod Calm
+mod Tested
 pub mod Example

@@ -1,11 +1,11 @@
 -- Iarwennol. The statement over bytes is the claim about lists of calls at two ends that are named here. Assumes nothing.
--- Used by the theorem (Robust) and its corollary (Alike); the laws of these two ends are in Laws.
-use Prim.Native.Nat.{ℕ, suc, _<_}
+-- Used by the theorem (Robust), its corollary (Alike) and the claim without saves (Unsaved); the laws of the two ends are in Laws.
+use Prim.Native.Nat.{ℕ, zero, suc, _<_}
 use mathlib.Core.Path.{_≡_, refl, sym, ap, _∙_, subst}
 use mathlib.Core.Bool.{Bool, true, false, cond}
 use mathlib.Core.List.{List, [], _∷_, _++_, map, map-append}
 use mathlib.Core.Option.{Option, none, some}
-use lib.Dec.{eqb}
+use lib.Dec.{eqb, ltb}
 use lib.ListN.{length, getD, take, length-map, List·getD-map}
 use Rattle.codes.specs.Bytes as bytes
 use Rattle.compressor.specs.declared.table.Table as compressor
@@ -15,11 +15,13 @@ use Rattle.compressor.specs.Request.{requestOf}
 use Rattle.decompressor.specs.declared.table.Table as decompressor
 use Rattle.decompressor.specs.Answer as receiving
 use Rattle.decompressor.specs.Receive.{receiveOf}
+use Rattle.decompressor.specs.Table.{soundOf}
+use Rattle.saves.specs.Saves.{savedBytes, saveOf, loadOf}
 use Rattle.calls.specs.Calls as calls
-use Rattle.calls.specs.Earlier.{arrivals, lostIn, marks, Lawful, ExactIn, Earlier}
-use Rattle.calls.proofs.Earlier.{earlier-allowed}
-use Rattle.crtp.specs.Robust.{Bytes, Call, send, request, arrival, other, Sent, World, givenOut, sentAt, answer, step, after}
-use Rattle.crtp.specs.Robust.{Ordered, contextOf, isOn, lost, losses, Bounded, Rebuilt, Exact}
+use Rattle.calls.proofs.Always.{always-each}
+use Rattle.crtp.specs.Robust.{Bytes, Call, send, request, arrival, save, load, other, Sent, Saved, World, givenOut, savedBy}
+use Rattle.crtp.specs.Robust.{sentAt, savedAt, answer, step, after, Always, contextOf, isOn, has, losses, Bounded, Proper}
+use Rattle.crtp.specs.Robust.{Allowed, Rebuilt, Exact, fresh}
 
 ---- The two ends
 
@@ -31,9 +33,16 @@ pub record Frame : Type 0 where
 abbrev pub frameOf : sending.Result → Option Frame
 frameOf r = cond (eqb (r .number) 0) (some (record { kind = r .kind; bytes = take (r .length) (r .output) })) none
 
+-- what a save gave out
+abbrev pub formOf : receiving.Result → Option (List ℕ)
+formOf r = cond (eqb (r .number) 0) (some (take (r .length) (r .output))) none
+
 -- what was handed in and what it became, in the words of the statement
 abbrev pub sentOf : calls.Sent Bytes Frame → Sent
 sentOf e = record { packet = e .orig .list; kind = e .link .kind; bytes = e .link .bytes }
+
+abbrev savedOf : calls.Save (List ℕ) → Saved
+savedOf x = record { bytes = x .form; line = x .line }
 
 abbrev pub frameContext : Frame → Option ℕ
 frameContext f = contextOf (record { packet = []; kind = f .kind; bytes = f .bytes })
@@ -41,8 +50,8 @@ frameContext f = contextOf (record { packet = []; kind = f .kind; bytes = f .byt
 abbrev noBytes : Bytes
 noBytes = record { list = []; small = bytes.none }
 
--- there are no saves, so no loads either; and every packet may arrive right after a gap
-abbrev pub ends : calls.Ends Bytes Frame Bytes Bytes (Unit {0}) compressor.Table decompressor.Table sending.Result receiving.Result
+-- every packet may arrive right after a gap
+abbrev pub ends : calls.Ends Bytes Frame Bytes Bytes (List ℕ) compressor.Table decompressor.Table sending.Result receiving.Result
 ends = record {
   size = λ p. length (p .list);
   room = λ b. length (b .list);
@@ -53,17 +62,17 @@ ends = record {
   request = λ t q. requestOf t (q .list) .table;
   receive = λ t f b. receiveOf t (f .kind) (f .bytes) (b .list);
   decompressor = λ r. r .table;
-  save = λ t b. none;
-  load = λ t f. t;
+  save = λ t b. formOf (saveOf t (b .list));
+  load = λ t f. loadOf t f .table;
   Right = λ p r. Rebuilt (p .list) r;
   Lacking = λ r. r .number ≡ 11;
   Fit = λ p. Unit {0};
   nothing = record { orig = noBytes; link = record { kind = 0; bytes = [] } };
-  noForm = tt;
+  noForm = [];
 }
 
 abbrev pub Ends·World : Type 0
-Ends·World = calls.World Bytes Frame (Unit {0}) compressor.Table decompressor.Table
+Ends·World = calls.World Bytes Frame (List ℕ) compressor.Table decompressor.Table
 
 abbrev pub Ends·Call : Type 0
 Ends·Call = calls.Call Bytes Bytes Bytes decompressor.Table
@@ -74,10 +83,19 @@ abbrev pub callOf : Call → Ends·Call
 callOf (send p output) = calls.sendCall p output
 callOf (request q) = calls.requestCall q
 callOf (arrival i output) = calls.arrivalCall i output
+callOf (save output) = calls.saveCall output
+callOf (load i handed) = calls.loadCall i handed
 callOf other = calls.otherCall
 
 abbrev pub worldOf : Ends·World → World
-worldOf w = record { compressor = w .compressor; decompressor = w .decompressor; sent = map sentOf (w .log) }
+worldOf w = record {
+  compressor = w .compressor;
+  decompressor = w .decompressor;
+  sent = map sentOf (w .log);
+  line = w .line;
+  saved = map savedOf (w .saves);
+  next = w .next;
+}
 
 abbrev stepped : Ends·World → Call → Ends·World
 stepped w x = calls.step ends w (callOf x)
@@ -90,8 +108,31 @@ given-logged p r = by (eqb (r .number) 0)
     by true = refl
     by false = refl
 
-sentAt-worldOf : (w : Ends·World) (i : ℕ) → sentAt (worldOf w) i ≡ sentOf (getD (w .log) i (ends .nothing))
+saved-noted : (line : List ℕ) (r : receiving.Result) → savedBy line r ≡ map savedOf (calls.saved (formOf r) line)
+saved-noted line r = by (eqb (r .number) 0)
+  where
+    by : (b : Bool) → cond b (record { bytes = take (r .length) (r .output); line = line } ∷ []) []
+        ≡ map savedOf (calls.saved (cond b (some (take (r .length) (r .output))) none) line)
+    by true = refl
+    by false = refl
+
+-- a save leaves the table
+table-saveOf : (t : decompressor.Table) (output : List ℕ) → saveOf t output .table ≡ t
+unfolding saveOf
+table-saveOf t output = by (soundOf t) (ltb (length output) (length (savedBytes t)))
+  where
+    by : (sound short : Bool)
+        → cond sound (cond short (receiving.refused t 11 output) (receiving.accepted t (savedBytes t) output))
+        (receiving.refused t 1 output) .table ≡ t
+    by true true = refl
+    by true false = refl
+    by false short = refl
+
+pub sentAt-worldOf : (w : Ends·World) (i : ℕ) → sentAt (worldOf w) i ≡ sentOf (getD (w .log) i (ends .nothing))
 sentAt-worldOf w i = List·getD-map sentOf (w .log) i (ends .nothing)
+
+savedAt-worldOf : (w : Ends·World) (i : ℕ) → savedAt (worldOf w) i ≡ savedOf (calls.saveAt ends w i)
+savedAt-worldOf w i = List·getD-map savedOf (w .saves) i (record { form = []; line = [] })
 
 pub answer-worldOf : (w : Ends·World) (i : ℕ) (output : Bytes) → answer (worldOf w) i output ≡ calls.arrived ends w i output
 answer-worldOf w i output = rw (sentAt-worldOf w i)
@@ -101,110 +142,129 @@ pub rebuilt-worldOf : (w : Ends·World) (i : ℕ) (output : Bytes)
     → Rebuilt (sentAt (worldOf w) i .packet) (answer (worldOf w) i output)
 rebuilt-worldOf w i output r = rw (sentAt-worldOf w i) r
 
-step-send : (w : Ends·World) (p : Bytes) (r : sending.Result)
-    → map sentOf (w .log) ++ givenOut (p .list) r ≡ map sentOf (w .log ++ calls.logged (frameOf r) p)
-step-send w p r = rw (map-append sentOf (w .log) (calls.logged (frameOf r) p), given-logged p r)
+pub sent-more : (log : List (calls.Sent Bytes Frame)) (p : Bytes) (r : sending.Result)
+    → map sentOf log ++ givenOut (p .list) r ≡ map sentOf (log ++ calls.logged (frameOf r) p)
+sent-more log p r = rw (map-append sentOf log (calls.logged (frameOf r) p), given-logged p r)
+
+saved-more : (saves : List (calls.Save (List ℕ))) (line : List ℕ) (r : receiving.Result)
+    → map savedOf saves ++ savedBy line r ≡ map savedOf (saves ++ calls.saved (formOf r) line)
+saved-more saves line r = rw (map-append savedOf saves (calls.saved (formOf r) line), saved-noted line r)
 
 step-worldOf : (w : Ends·World) (x : Call) → step (worldOf w) x ≡ worldOf (stepped w x)
-step-worldOf w (send p output) = rw (step-send w p (sendOf (w .compressor) (p .list) (output .list)))
+step-worldOf w (send p output) = rw (sent-more (w .log) p (sendOf (w .compressor) (p .list) (output .list)))
 step-worldOf w (request q) = refl
 step-worldOf w (arrival i output) = rw (sentAt-worldOf w i)
+step-worldOf w (save output) =
+    rw (saved-more (w .saves) (w .line) (saveOf (w .decompressor) (output .list)), table-saveOf (w .decompressor) (output .list))
+step-worldOf w (load i handed) = rw (savedAt-worldOf w i)
 step-worldOf w other = refl
 
 pub after-worldOf : (xs : List Call) (w : Ends·World) → after (worldOf w) xs ≡ worldOf (calls.final ends w (map callOf xs))
 after-worldOf [] w = refl
 after-worldOf (x ∷ xs) w = ap (λ (v : World). after v xs) (step-worldOf w x) ∙ after-worldOf xs (stepped w x)
 
--- what holds of the world after a call there holds of the world after it here, and back
-module _ (P : World → Type 0) (w : Ends·World) (x : Call) where
-  to-ends : P (step (worldOf w) x) → P (worldOf (stepped w x))
-  to-ends = subst P (step-worldOf w x)
+---- What holds of every call here holds of every call there, and back
 
-  from-ends : P (worldOf (stepped w x)) → P (step (worldOf w) x)
-  from-ends = subst P (sym (step-worldOf w x))
+module _ (R : World → Call → Type 0) (S : Ends·World → Ends·Call → Type 0) where
+  always-calls : ((w : Ends·World) (x : Call) → R (worldOf w) x → S w (callOf x)) → (xs : List Call) (w : Ends·World)
+      → Always R (worldOf w) xs → calls.Always ends S w (map callOf xs)
+  always-calls f [] w a = tt
+  always-calls f (x ∷ xs) w a =
+      (f w x (a .0), always-calls f xs (stepped w x) (subst (λ (v : World). Always R v xs) (step-worldOf w x) (a .1)))
+
+  calls-always : ((w : Ends·World) (x : Call) → S w (callOf x) → R (worldOf w) x) → (xs : List Call) (w : Ends·World)
+      → calls.Always ends S w (map callOf xs) → Always R (worldOf w) xs
+  calls-always f [] w a = tt
+  calls-always f (x ∷ xs) w a =
+      (f w x (a .0), subst (λ (v : World). Always R v xs) (sym (step-worldOf w x)) (calls-always f xs (stepped w x) (a .1)))
 
 ---- The premises
 
-lawful-ordered : (xs : List Call) (w : Ends·World) (m : ℕ) → Ordered (worldOf w) m xs → Lawful ends w m (map callOf xs)
-lawful-ordered [] w m o = tt
-lawful-ordered (send p output ∷ xs) w m o =
-    lawful-ordered xs (stepped w (send p output)) m (to-ends (λ v. Ordered v m xs) w (send p output) o)
-lawful-ordered (request q ∷ xs) w m o = lawful-ordered xs (stepped w (request q)) m o
-lawful-ordered (arrival i output ∷ xs) w m o = (
-  o .0,
-  given (o .1),
-  lawful-ordered xs (stepped w (arrival i output)) (suc i) (to-ends (λ v. Ordered v (suc i) xs) w (arrival i output) (o .2)),
-)
-  where
-    given : i < length (map sentOf (w .log)) → i < length (w .log)
-    given h = rw (length-map (w .log) sentOf) at h
-lawful-ordered (other ∷ xs) w m o = lawful-ordered xs w m o
-
-lost-callOf : (xs : List Call) (i size : ℕ) → lost xs i size ≡ lostIn ends (arrivals ends (map callOf xs)) i size
-lost-callOf [] i size = refl
-lost-callOf (send p output ∷ xs) i size = lost-callOf xs i size
-lost-callOf (request q ∷ xs) i size = lost-callOf xs i size
-lost-callOf (arrival k output ∷ xs) i size = rw (lost-callOf xs i size)
-lost-callOf (other ∷ xs) i size = lost-callOf xs i size
-
-isOn-same : (o : Option ℕ) (c : ℕ) → isOn o c ≡ calls.isOn o c
+pub isOn-same : (o : Option ℕ) (c : ℕ) → isOn o c ≡ calls.isOn o c
 isOn-same none c = refl
 isOn-same (some d) c = refl
 
-losses-marks : (c : ℕ) (xs : List Call) (i : ℕ) (es : List (calls.Sent Bytes Frame))
-    → losses c xs i (map sentOf es) ≡ marks ends c (arrivals ends (map callOf xs)) i es
-losses-marks c xs i [] = refl
-losses-marks c xs i (e ∷ es) =
-    rw (isOn-same (contextOf (sentOf e)) c, lost-callOf xs i (length (e .orig .list)), losses-marks c xs (suc i) es)
+has-same : (line : List ℕ) (m : ℕ) → has line m ≡ calls.has line m
+has-same [] m = refl
+has-same (k ∷ ks) m = rw (has-same ks m)
+
+map-take : {A B : Type 0} (f : A → B) (n : ℕ) (xs : List A) → take n (map f xs) ≡ map f (take n xs)
+map-take f zero xs = refl
+map-take f (suc n) [] = refl
+map-take {B = B} f (suc n) (x ∷ xs) = ap {B = List B} (λ r. f x ∷ r) (map-take f n xs)
+
+losses-same : (c : ℕ) (line : List ℕ) (i : ℕ) (es : List (calls.Sent Bytes Frame))
+    → losses c line i (map sentOf es) ≡ calls.losses ends c (calls.lost line) i es
+losses-same c line i [] = refl
+losses-same c line i (e ∷ es) = rw (isOn-same (contextOf (sentOf e)) c, has-same line i, losses-same c line (suc i) es)
+
+losses-worldOf : (c : ℕ) (w : Ends·World) (i : ℕ)
+    → losses c (w .line) 0 (take i (map sentOf (w .log))) ≡ calls.lossesAt ends 0 c w i
+losses-worldOf c w i =
+    ap (λ (es : List Sent). losses c (w .line) 0 es) (map-take sentOf i (w .log)) ∙ losses-same c (w .line) 0 (take i (w .log))
+
+module _ (n : ℕ) where
+  proper-ends : (c : ℕ) (w : Ends·World) (i : ℕ) → Proper n (worldOf w) i → calls.Proper ends n 0 c w i
+  proper-ends c w i p = record {
+    sent = rw (length-map (w .log) sentOf) at (p .given);
+    order = p .order;
+    bounded = subst (Bounded n) (losses-worldOf c w i) (p .bounded c);
+    fit = λ on gap. tt;
+  }
+
+  allowed-ends : (c : ℕ) (w : Ends·World) (x : Call) → Allowed n (worldOf w) x → calls.Allowed ends n 0 c w (callOf x)
+  allowed-ends c w (send p output) a = tt
+  allowed-ends c w (request q) a = tt
+  allowed-ends c w (arrival i output) a = proper-ends c w i a
+  allowed-ends c w (save output) a = tt
+  allowed-ends c w (load i handed) a = subst (λ (k : ℕ). i < k) (length-map (w .saves) savedOf) a
+  allowed-ends c w other a = tt
+
+  -- and back, from every context number
+  proper-worldOf : (w : Ends·World) (i : ℕ) → ((c : ℕ) → calls.Proper ends n 0 c w i) → Proper n (worldOf w) i
+  proper-worldOf w i p = record {
+    given = rw (length-map (w .log) sentOf) (p 0 .sent);
+    order = p 0 .order;
+    bounded = λ c. subst (Bounded n) (sym (losses-worldOf c w i)) (p c .bounded);
+  }
+
+  allowed-worldOf : (w : Ends·World) (x : Call) → ((c : ℕ) → calls.Allowed ends n 0 c w (callOf x)) → Allowed n (worldOf w) x
+  allowed-worldOf w (send p output) a = tt
+  allowed-worldOf w (request q) a = tt
+  allowed-worldOf w (arrival i output) a = proper-worldOf w i a
+  allowed-worldOf w (save output) a = tt
+  allowed-worldOf w (load i handed) a = subst (λ (k : ℕ). i < k) (sym (length-map (w .saves) savedOf)) (a 0)
+  allowed-worldOf w other a = tt
 
 ---- The claim
 
-module _ (all : List Call) where
-  exact-arrival : (w : Ends·World) (i : ℕ) (output : Bytes)
-      → (lostIn ends (arrivals ends (map callOf all)) i (length (calls.packetAt ends w i .list)) ≡ false
-      → Rebuilt (calls.packetAt ends w i .list) (calls.arrived ends w i output))
-      → lost all i (length (sentAt (worldOf w) i .packet)) ≡ false
-      → Rebuilt (sentAt (worldOf w) i .packet) (answer (worldOf w) i output)
-  exact-arrival w i output right = rw (sentAt-worldOf w i, lost-callOf all i (length (calls.packetAt ends w i .list))) right
+exact-worldOf : (w : Ends·World) (x : Call) → calls.AtArrival ends (calls.Exact ends) w (callOf x) → Exact (worldOf w) x
+exact-worldOf w (send p output) a = tt
+exact-worldOf w (request q) a = tt
+exact-worldOf w (arrival i output) a = λ room. rebuilt-worldOf w i output (a (rw (sentAt-worldOf w i) at room))
+exact-worldOf w (save output) a = tt
+exact-worldOf w (load i handed) a = tt
+exact-worldOf w other a = tt
 
-  exact-calls : (xs : List Call) (w : Ends·World) → ExactIn ends (arrivals ends (map callOf all)) w (map callOf xs)
-      → Exact all (worldOf w) xs
-  exact-calls [] w x = tt
-  exact-calls (send p output ∷ xs) w x =
-      from-ends (λ v. Exact all v xs) w (send p output) (exact-calls xs (stepped w (send p output)) x)
-  exact-calls (request q ∷ xs) w x = exact-calls xs (stepped w (request q)) x
-  exact-calls (arrival i output ∷ xs) w x = (
-    exact-arrival w i output (x .0),
-    from-ends (λ v. Exact all v xs) w (arrival i output) (exact-calls xs (stepped w (arrival i output)) (x .1)),
-  )
-  exact-calls (other ∷ xs) w x = exact-calls xs w x
+---- From tables with nothing sent yet
 
----- From a world in which nothing was sent yet
+module _ (n : ℕ) (t : compressor.Table) (d : decompressor.Table) (xs : List Call) where
+  abbrev start : Ends·World
+  start = calls.fresh ends t d
 
-module _ (v : World) (nothing : v .sent ≡ []) where
-  abbrev pub start : Ends·World
-  start = calls.fresh ends (v .compressor) (v .decompressor)
+  -- the premises over bytes are the premises at the two ends
+  pub allowed-to-ends : Always (Allowed n) (fresh t d) xs
+      → (c : ℕ) → calls.Always ends (calls.Allowed ends n 0 c) start (map callOf xs)
+  allowed-to-ends a c = always-calls (Allowed n) (calls.Allowed ends n 0 c) (allowed-ends n c) xs start a
 
-  pub start-is : v ≡ worldOf start
-  start-is = λ i. record { compressor = v .compressor; decompressor = v .decompressor; sent = nothing i }
+  pub allowed-from-ends : ((c : ℕ) → calls.Always ends (calls.Allowed ends n 0 c) start (map callOf xs))
+      → Always (Allowed n) (fresh t d) xs
+  allowed-from-ends a =
+      calls-always (Allowed n) (λ w x. (c : ℕ) → calls.Allowed ends n 0 c w x) (allowed-worldOf n) xs start
+      (always-each ends (calls.Allowed ends n 0) (map callOf xs) start a)
 
-  module _ (n : ℕ) (xs : List Call) (ordered : Ordered v 0 xs) (bounded : (c : ℕ) → Bounded n (losses c xs 0 (after v xs .sent)))
-    where
-      sent-is : after v xs .sent ≡ map sentOf (calls.final ends start (map callOf xs) .log)
-      sent-is = ap (λ (u : World). after u xs .sent) start-is ∙ ap (λ (u : World). u .sent) (after-worldOf xs start)
-
-      start-lawful : Lawful ends start 0 (map callOf xs)
-      start-lawful = lawful-ordered xs start 0 (subst (λ (u : World). Ordered u 0 xs) start-is ordered)
-
-      start-bounded : (c : ℕ)
-          → calls.Bounded n (marks ends c (arrivals ends (map callOf xs)) 0 (calls.final ends start (map callOf xs) .log))
-      start-bounded c = rw (sent-is, losses-marks c xs 0 (calls.final ends start (map callOf xs) .log)) at (bounded c)
-
-      -- the premises over bytes are the premises at the two ends, and the claim there is the claim over bytes
-      pub start-allowed : (c : ℕ) → calls.Always ends (calls.Allowed ends n 0 c) start (map callOf xs)
-      start-allowed = earlier-allowed ends n (v .compressor) (v .decompressor) (λ p. tt) (map callOf xs) start-lawful start-bounded
-
-      pub exact-earlier : Earlier ends n (v .compressor) (v .decompressor) → Exact xs v xs
-      exact-earlier claim =
-          subst (λ (u : World). Exact xs u xs) (sym start-is)
-          (exact-calls xs xs start (claim (map callOf xs) start-lawful start-bounded))
+  -- and the claim there is the claim over bytes
+  pub exact-from-ends : calls.Faithful ends n t d → Always (Allowed n) (fresh t d) xs → Always Exact (fresh t d) xs
+  exact-from-ends claim a =
+      calls-always Exact (calls.AtArrival ends (calls.Exact ends)) exact-worldOf xs start
+      (claim (map callOf xs) (allowed-to-ends a))

@@ -1,7 +1,7 @@
 -- Iarwennol. The relation of the two tables: what it says of the compressor's, of the decompressor's, and of both at one context
 -- number. Each part is kept by the calls of its end, and holds of the tables that openings leave. Assumes nothing.
 -- Used by all that follows.
-use Prim.Native.Nat.{ℕ, zero, suc}
+use Prim.Native.Nat.{ℕ, zero, suc, _<_}
 use mathlib.Core.Path.{_≡_, refl, ap, _∙_}
 use mathlib.Core.Bool.{true, true≢false}
 use mathlib.Core.List.{List}
@@ -12,6 +12,7 @@ use Rattle.settings.specs.Settings as settings
 use Rattle.settings.specs.declared.Settings.{Settings}
 use Rattle.context.proofs.Relation.{Held}
 use Rattle.context.proofs.Relation.{Related}
+use Rattle.context.specs.Ranges.{ContextInRange}
 use Rattle.context.specs.Sound.{emptyCompressor, emptyDecompressor}
 use Rattle.context.specs.declared.compressor.CompressorContext.{CompressorContext}
 use Rattle.context.specs.declared.decompressor.DecompressorContext.{DecompressorContext}
@@ -27,7 +28,7 @@ use Rattle.decompressor.specs.declared.table.Table as decompressor
 use Rattle.decompressor.specs.Table as decompressing
 use Rattle.decompressor.specs.TableLaws as decompressing·laws
 use Rattle.decompressor.specs.Receive.{receiveOf}
-use Rattle.decompressor.proofs.ReceiveSound.{sound-receive, settings-receive, length-receive}
+use Rattle.decompressor.proofs.ReceiveSound.{sound-receive, settings-receive, length-receive, range-receive}
 use Rattle.crtp.specs.Robust.{Bytes}
 
 -- of the compressor's table, from its opening on: it is sound, of these settings, and every number is within its type
@@ -37,11 +38,13 @@ pub record SenderFit (s : Settings) (t : compressor.Table) : Type 0 where
   pub size : length (t .contexts) ≡ 64
   pub held : (i : ℕ) → Held (compressing.contextAt t i)
 
--- of the decompressor's table, whatever its contexts hold: it is sound, of the same settings
+-- of the decompressor's table, whatever its contexts hold: it is sound, of the same settings, and every number is within its type,
+-- as it must be for a save of it to load as the same table
 pub record ReceiverFit (s : Settings) (d : decompressor.Table) : Type 0 where
   pub settings : d .settings ≡ s
   pub sound : decompressing.Sound d
   pub size : length (d .contexts) ≡ 64
+  pub held : (i : ℕ) → i < 64 → ContextInRange (decompressing.contextAt d i)
 
 -- of both at context c, when j packets on it were lost since the last accepted one: the two contexts are related
 abbrev pub RelatedAt : (c j : ℕ) → decompressor.Table → compressor.Table → Type 0
@@ -78,6 +81,7 @@ module _ (s : Settings) where
     settings = settings-receive d kind bytes (f .sound) small output ∙ f .settings;
     sound = sound-receive d kind bytes (f .sound) small output;
     size = length-receive d kind bytes (f .sound) small output ∙ f .size;
+    held = λ i h. range-receive d kind bytes (f .sound) small output i (f .held i h);
   }
 
 ---- Openings
@@ -125,6 +129,7 @@ module _ (s : Settings) (range : settings.sound s ≡ true) where
     settings = refl;
     sound = decompressing·laws.sound-emptyTable s range;
     size = length-replicate 64 emptyDecompressor;
+    held = decompressing·laws.range-emptyTable s;
   }
 
   pub rel-fresh : (c : ℕ) → Rel s c 0 (decompressing.emptyTable s) (compressing.emptyTable s)

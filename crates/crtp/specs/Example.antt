@@ -1,11 +1,13 @@
--- Iarwennol. The premises of robustness can be met: one list of calls, with its answers computed. N 1, K 2.
--- A full header is lost, a CU is lost, an arrival has no room, a request stands between, an arrival is late, a plain packet goes.
--- And they can be missed: in another list the first three packets are lost, and the next arrival is refused.
+-- Iarwennol. The premises of robustness can be met: lists of calls, with their answers computed. N 1, K 2.
+-- A full header is lost, a CU is lost, an arrival has no room, a request stands between, an arrival is late, a plain packet goes;
+-- then the table is saved, a packet arrives, and the bytes are loaded into a table that was never opened.
+-- And they can be missed: in one list the first three packets are lost, in another too many arrive between save and load, and the
+-- next arrival is refused.
 -- Used by proofs/Example.antt, which shows all of it.
 use Prim.Native.Nat.{ℕ}
 use mathlib.Core.List.{List, [], _∷_}
 use lib.ListN.{take}
-use Rattle.crtp.specs.Robust.{Call, send, request, arrival, other, World, step, answer}
+use Rattle.crtp.specs.Robust.{Call, send, request, arrival, save, load, other, World, step, answer}
 
 ---- The packets: one stream, sequence and ID one on, timestamp 160 on with each; and one that is no IPv4 packet
 
@@ -34,6 +36,15 @@ packet4 = voice 0x05 0xBE 0x68 0x06 0x68
 abbrev pub packet5 : List ℕ
 packet5 = voice 0x06 0xBD 0x69 0x07 0x08
 
+abbrev pub packet6 : List ℕ
+packet6 = voice 0x07 0xBC 0x6A 0x07 0xA8
+
+abbrev pub packet7 : List ℕ
+packet7 = voice 0x08 0xBB 0x6B 0x08 0x48
+
+abbrev pub packet8 : List ℕ
+packet8 = voice 0x09 0xBA 0x6C 0x08 0xE8
+
 abbrev pub odd : List ℕ
 odd = 0x00 ∷ []
 
@@ -59,4 +70,6 @@ answers w (request q ∷ xs) = answers (step w (request q)) xs
 answers w (arrival i output ∷ xs) =
     record { number = answer w i output .number; bytes = take (answer w i output .length) (answer w i output .output) }
     ∷ answers (step w (arrival i output)) xs
+answers w (save output ∷ xs) = answers (step w (save output)) xs
+answers w (load i handed ∷ xs) = answers (step w (load i handed)) xs
 answers w (other ∷ xs) = answers w xs

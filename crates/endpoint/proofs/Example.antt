@@ -7,8 +7,9 @@ use mathlib.Core.Bool.{Bool, true, cond, _&&_, and-eq-true-iff}
 use mathlib.Core.List.{List, [], _∷_, _++_, map}
 use lib.Dec.{eqb}
 use Rattle.crtp.specs.Face.{firstRefusal}
-use Rattle.crtp.specs.Robust as robust
-use Rattle.crtp.specs.Robust.{Bounded, losses}
+use Rattle.crtp.specs.Robust.{Bounded}
+use Rattle.crtp.specs.Unsaved as unsaved
+use Rattle.crtp.specs.Unsaved.{losses}
 use Rattle.crtp.specs.Example.{packet0, packet1, packet2, packet3, packet4, packet5, odd, asks, asksFirst, Shown}
 use Rattle.crtp.proofs.Example as crtp
 use Rattle.crtp.proofs.Example.{bytes, wide, narrow, chosen}
@@ -114,12 +115,12 @@ proper : AllProper near list
 proper = proper-all near list refl
 
 -- what near gave out is what crtp's example gave out
-given-near : robust.after crtp.start crtp.list ≡ view near (after start list)
+given-near : unsaved.after crtp.start crtp.list ≡ view near (after start list)
 given-near = view-after near list start typed proper
 
 bounded-near : (c : ℕ) → Bounded (chosen .repeats) (losses c (map (seen near) list) 0 (after start list near .sent))
 bounded-near c =
-    subst (λ (v : robust.World). Bounded (chosen .repeats) (losses c crtp.list 0 (v .sent))) given-near (crtp.premises .bounded c)
+    subst (λ (v : unsaved.World). Bounded (chosen .repeats) (losses c crtp.list 0 (v .sent))) given-near (crtp.premises .bounded c)
 
 premises : Premises chosen near start list
 premises = record {
@@ -138,12 +139,12 @@ exact = proved.facing chosen near start list premises
 proper-back : AllProper far calls
 proper-back = proper-all far calls refl
 
-given-far : robust.after crtp.start crtp.missed ≡ view far (after start calls)
+given-far : unsaved.after crtp.start crtp.missed ≡ view far (after start calls)
 given-far = view-after far calls start typed proper-back
 
 -- more are lost than there may be
 too-many : Bounded (chosen .repeats) (losses 0 (map (seen far) calls) 0 (after start calls far .sent)) → ⊥
-too-many b = crtp.too-many (subst (λ (v : robust.World). Bounded 1 (losses 0 crtp.missed 0 (v .sent))) (sym given-far) b)
+too-many b = crtp.too-many (subst (λ (v : unsaved.World). Bounded 1 (losses 0 crtp.missed 0 (v .sent))) (sym given-far) b)
 
 proper-before : AllProper far before
 proper-before = proper-all far before refl
@@ -160,5 +161,5 @@ first (x ∷ xs) = x .number
 refused : answer (after start before) near 3 wide .number ≡ 8
 refused =
     ap (λ (r : Result). r .number) (arrival-rebuilds (after start before) (typed-before before start typed) near 3 wide)
-    ∙ subst (λ (v : robust.World). robust.answer v 3 wide .number ≡ 8) (view-after far before start typed proper-before)
+    ∙ subst (λ (v : unsaved.World). unsaved.answer v 3 wide .number ≡ 8) (view-after far before start typed proper-before)
     (ap first (crtp.computed .refused))

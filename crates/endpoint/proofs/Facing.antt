@@ -12,9 +12,10 @@ use lib.ListN.{length, take, getD}
 use Rattle.crtp.specs.Face.{Settings, CompressorTable, DecompressorTable, compressedRtp, firstRefusal-accepted}
 use Rattle.crtp.specs.Face.{openCompressorOf, openDecompressorOf, sendOf-type, requestOf, receiveOf, table-reportOf}
 use Rattle.crtp.specs.Face as face
-use Rattle.crtp.specs.Robust as crtp
+use Rattle.crtp.specs.Robust as robust
 use Rattle.crtp.specs.Robust.{Bytes, Sent}
-use Rattle.crtp.proofs.Robust.{robust}
+use Rattle.crtp.specs.Unsaved as crtp
+use Rattle.crtp.proofs.Unsaved.{unsaved}
 use Rattle.endpoint.specs.declared.answer.Endpoint.{Endpoint}
 use Rattle.endpoint.specs.Totals.{rebuilt}
 use Rattle.endpoint.specs.Answer.{Result}
@@ -167,7 +168,7 @@ exact-rest all v crtp.other ys x = x
 
 module _ (all : List Call) (w : World) (typed : AllTyped w) where
   rebuilt-by : (packet : List ℕ) (s : Side) (i : ℕ) (output : Bytes)
-      → crtp.Rebuilt packet
+      → robust.Rebuilt packet
       (receiveOf (w s .endpoint .decompressor) (sentAt w (across s) i .kind) (sentAt w (across s) i .bytes) (output .list))
       → Rebuilt packet (answer w s i output)
   rebuilt-by packet s i output r =
@@ -208,7 +209,7 @@ module _ (e : Endpoint) (n k : ℕ) (accepted : openOf e n k .number ≡ 0) wher
   opened-decompressor = rw accepted
 
 module _ (s : Settings) (w : World) (o : Opened s w) where
-  open-view : (d : Side) → crtp.Opened s (view d w)
+  open-view : (d : Side) → robust.Opened s (view d w .compressor) (view d w .decompressor)
   open-view d =
       let c = o .earlier d in
       let v = o .earlier (across d) in
@@ -222,7 +223,6 @@ module _ (s : Settings) (w : World) (o : Opened s w) where
         decompressor =
             ap (λ (x : Endpoint). x .decompressor) (o .opened (across d))
             ∙ opened-decompressor v (s .repeats) (s .contexts) (o .accepted (across d));
-        nothing = o .nothing d;
       }
 
   pub none-typed : AllTyped w
@@ -232,9 +232,10 @@ pub facing : Facing
 facing s d w xs p =
     let t = none-typed s w (p .opened) in
     exact-seen d xs xs w t (p .proper)
-    (robust s (view d w) (map (seen d) xs)
+    (unsaved s (view d w) (map (seen d) xs)
     (record {
       opened = open-view s w (p .opened) d;
+      nothing = p .opened .nothing d;
       ordered = p .ordered;
       bounded = λ c. rw (view-after d xs w t (p .proper)) (p .bounded c);
     }))

@@ -1,6 +1,7 @@
 -- Iarwennol. Robustness of two endpoints that face each other, stated (rules 13.7, 13.8): each direction by itself. What is asked
 -- of one direction is what crtp asks of a link; nothing is asked of the other. What is claimed is what the receiving endpoint's own
--- call answers. Read crtp's Robust.antt first; the proof is `facing` (proofs/Facing.antt).
+-- call answers. Read crtp's Unsaved.antt first, since neither saves nor loads are among these calls; the proof is `facing`
+-- (proofs/Facing.antt).
 use Prim.Native.Nat.{ℕ}
 use mathlib.Core.Path.{_≡_}
 use mathlib.Core.Bool.{Bool, true, false, cond}
@@ -8,8 +9,9 @@ use mathlib.Core.List.{List, [], _∷_, _++_, map}
 use lib.Dec.{eqb}
 use lib.ListN.{length, take, getD}
 use Rattle.crtp.specs.Face.{Settings}
-use Rattle.crtp.specs.Robust as crtp
-use Rattle.crtp.specs.Robust.{Bytes, Sent, Ordered, lost, losses, Bounded}
+use Rattle.crtp.specs.Robust.{Bytes, Sent, Bounded}
+use Rattle.crtp.specs.Unsaved as crtp
+use Rattle.crtp.specs.Unsaved.{Ordered, lost, losses}
 use Rattle.endpoint.specs.declared.answer.Endpoint.{Endpoint}
 use Rattle.endpoint.specs.Answer.{Result}
 use Rattle.endpoint.specs.Calls.{contextState, openOf, radioOf}
