@@ -15,6 +15,7 @@ pub mod mutant;
 pub mod prng;
 pub mod refusal;
 pub mod script;
+mod way;
 
 /// Link types as numbers beside the bytes.
 pub const PLAIN: u32 = 0;
