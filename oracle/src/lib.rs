@@ -6,6 +6,7 @@ pub mod codes;
 pub mod compressor;
 pub mod decompressor;
 pub mod endpoint;
+pub mod files;
 pub mod flows;
 pub mod forge;
 pub mod generate;
@@ -14,6 +15,7 @@ pub mod header;
 pub mod mutant;
 pub mod prng;
 pub mod refusal;
+pub mod saved;
 pub mod script;
 mod way;
 

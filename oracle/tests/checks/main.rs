@@ -11,5 +11,6 @@ mod lists;
 mod mutants;
 mod published;
 mod refusals;
+mod saved;
 mod scripts;
 mod soundness;
