@@ -1,28 +1,17 @@
 //! Random call scripts for the endpoint alone. A script holds one endpoint; the generator lets a second
 //! one face it in the library, so that real link packets, losses and reports go both ways.
 
-use crate::decompressor::{self, Status};
 use crate::endpoint::{self, Endpoint, TOTALS};
 use crate::forge;
 use crate::generate::{
-    exact_length, forged_full_header, hex, odd_packet, room, LINK_TYPES, OUT_OF_RANGE,
+    exact_length, forged_full_header, hex, odd_packet, report_now, room, something_broken,
+    LINK_TYPES, OUT_OF_RANGE,
 };
 use crate::prng::Prng;
 use crate::script::{Runner, MOST_BYTES};
 use crate::way::{place_of_arrival, Way};
 use crate::{compressor, CONTEXT_STATE, PLAIN};
 use std::collections::VecDeque;
-
-fn something_broken(table: &decompressor::Table) -> bool {
-    let mut contexts = table.places.iter();
-    contexts.any(|context| context.status == Status::Broken)
-}
-
-fn report_now(table: &decompressor::Table) -> Vec<u8> {
-    let mut output = [0; 256];
-    let answer = decompressor::report(table, &mut output);
-    output[..answer.length].to_vec()
-}
 
 pub struct Generator {
     prng: Prng,
