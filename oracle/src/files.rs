@@ -10,24 +10,29 @@ use crate::saved::{self, Part};
 
 // Tables
 
-/// How many contexts a table has: mostly few, so that files stay short.
-pub fn some_size(prng: &mut Prng) -> u8 {
-    match prng.below(60) {
-        0 => 64,
-        1 | 2 => prng.between(1, 64) as u8,
-        _ => prng.pick(&[1, 1, 1, 2, 2, 2, 3, 3, 4, 5, 7]),
-    }
+/// How many contexts most tables have, so that files stay short.
+pub fn small_size(prng: &mut Prng) -> u8 {
+    prng.pick(&[1, 1, 1, 2, 2, 2, 3, 3, 4, 5, 7])
 }
 
-/// A sound table with contexts of every kind. The more contexts there are the fewer are filled, as a rule.
+/// A sound table with contexts of every kind. Where there are many of them few are filled, as a rule.
 pub fn some_table(prng: &mut Prng) -> Table {
+    if prng.chance(1, 120) {
+        return fullest_table(prng);
+    }
+    let contexts = match prng.below(24) {
+        0 => 64,
+        1..=4 => prng.between(1, 64) as u8,
+        _ => small_size(prng),
+    };
     let mut table = Table {
         repeats: prng.below(15) as u8,
-        contexts: some_size(prng),
+        contexts,
         ..Table::unopened()
     };
-    let filled = if table.contexts <= 7 || prng.chance(1, 6) {
-        8
+    // Out of sixteen.
+    let filled = if table.contexts <= 7 || prng.chance(1, 3) {
+        10
     } else {
         1
     };
@@ -37,6 +42,20 @@ pub fn some_table(prng: &mut Prng) -> Table {
             chosen if chosen < 2 + filled => some_filled_context(prng),
             _ => Context::default(),
         };
+    }
+    table
+}
+
+/// One that has the longest file there is.
+fn fullest_table(prng: &mut Prng) -> Table {
+    let mut table = Table {
+        repeats: prng.below(15) as u8,
+        contexts: 64,
+        ..Table::unopened()
+    };
+    for context in &mut table.places {
+        *context = some_filled_context(prng);
+        context.fields.cc = MAX_CSRC as u8;
     }
     table
 }
@@ -117,25 +136,35 @@ pub fn file_of(table: &Table) -> Vec<u8> {
 
 // Files in pieces
 
-/// The fields that a load judges one by one, but for the length.
-const PARTS: [Part; 10] = [
+/// The fields but for the length; the oftener named the more there is to go wrong with them.
+const PARTS: [Part; 18] = [
     Part::Version,
     Part::Repeats,
+    Part::Contexts,
     Part::Contexts,
     Part::Status,
     Part::Generation,
     Part::LinkSequence,
     Part::IdDelta,
+    Part::IdDelta,
+    Part::IdDelta,
+    Part::TimestampDelta,
+    Part::TimestampDelta,
     Part::TimestampDelta,
     Part::HeaderLength,
+    Part::HeaderLength,
+    Part::HeaderLength,
+    Part::Header,
     Part::Header,
 ];
 
 /// A file in its fields without the length, so that a change to one field leaves it clear where the others
 /// are.
 struct Pieces {
-    pieces: Vec<(Part, Vec<u8>)>,
+    pieces: Vec<Piece>,
 }
+
+type Piece = (Part, Vec<u8>);
 
 impl Pieces {
     /// Of a file that loads.
@@ -191,6 +220,10 @@ impl Pieces {
 /// A file that loads, changed in one way or two.
 pub fn changed(prng: &mut Prng, file: &[u8]) -> Vec<u8> {
     let mut pieces = Pieces::of(file);
+    // Most fields are those of a filled context, so there should be one.
+    if pieces.places_of(Part::Header).is_empty() && prng.chance(3, 4) {
+        pieces.replace_some_record(prng, filled_record);
+    }
     pieces.change(prng);
     if prng.chance(1, 4) {
         pieces.change(prng);
@@ -228,7 +261,7 @@ pub fn flipped(prng: &mut Prng, file: &[u8]) -> Vec<u8> {
 /// Bytes of no table: none, few, or a beginning that is right.
 pub fn noise(prng: &mut Prng) -> Vec<u8> {
     let count = prng.below(40);
-    let mut bytes = match prng.below(6) {
+    let mut bytes = match prng.below(8) {
         0 => return Vec::new(),
         1 => return vec![prng.pick(&[0, 1, 6, 255])],
         2 => return prng.bytes(count),
@@ -273,17 +306,18 @@ fn belie_length(prng: &mut Prng, bytes: &mut [u8]) {
 
 impl Pieces {
     fn change(&mut self, prng: &mut Prng) {
-        match prng.below(32) {
+        match prng.below(40) {
             0..=11 => {
                 let part = prng.pick(&PARTS);
                 self.forbid(prng, part);
             }
-            // A header has many faults of its own.
-            12..=16 => self.forbid(prng, Part::Header),
-            17..=22 => self.cut(prng),
-            23 | 24 => self.lengthen(prng),
-            25..=27 => self.replace_record(prng),
-            28 => self.change_size(prng),
+            // A header has many faults of its own, and so has a context without one.
+            12..=19 => self.forbid(prng, Part::Header),
+            20..=26 => self.replace_some_record(prng, unfilled_record),
+            27..=33 => self.cut(prng),
+            34 => self.lengthen(prng),
+            35 => self.change_size(prng),
+            36 => self.replace_record(prng),
             _ => {
                 let part = prng.pick(&PARTS);
                 self.allow(prng, part);
@@ -297,7 +331,9 @@ impl Pieces {
         if let Some(place) = self.some_place(prng, part) {
             self.pieces.truncate(place + 1);
             let bytes = &mut self.pieces[place].1;
-            bytes.truncate(prng.below(bytes.len()));
+            let most = bytes.len().saturating_sub(1);
+            let some = prng.between(0, most);
+            bytes.truncate(prng.pick(&[0, some, most]));
         }
     }
 
@@ -357,8 +393,9 @@ impl Pieces {
             Part::Contexts => return self.change_size(prng),
             // Live for broken, and the other way round; an empty one gets the record of another.
             Part::Status => match self.number(place) {
-                0 => return self.replace_record(prng),
-                status => vec![3 - status],
+                1 => vec![2],
+                2 => vec![1],
+                _ => return self.replace_record(prng),
             },
             Part::Generation => vec![prng.below(64) as u8],
             Part::LinkSequence => vec![prng.below(16) as u8],
@@ -421,50 +458,53 @@ impl Pieces {
         }
     }
 
-    /// Another record in the place of one: of a context that was never filled, which may have what only a
-    /// filled one can, or of any other context.
+    /// Another record in the place of one.
+    fn replace_some_record(&mut self, prng: &mut Prng, other: fn(&mut Prng) -> Vec<Piece>) {
+        if let Some(place) = self.some_place(prng, Part::Status) {
+            let (from, to) = self.record_around(place);
+            self.pieces.splice(from..to, other(prng));
+        }
+    }
+
+    /// A record that may well stand there in the place of one.
     fn replace_record(&mut self, prng: &mut Prng) {
-        let Some(place) = self.some_place(prng, Part::Status) else {
-            return;
-        };
-        let (from, to) = self.record_around(place);
-        let record = match prng.below(8) {
-            0..=4 => unfilled_record(prng),
-            5 => vec![(Part::Status, vec![0])],
-            _ => {
-                let mut table = Table {
-                    contexts: 1,
-                    ..Table::unopened()
-                };
-                table.places[0] = some_filled_context(prng);
-                Pieces::of(&file_of(&table)).pieces.split_off(3)
-            }
-        };
-        self.pieces.splice(from..to, record);
+        self.replace_some_record(prng, |prng| match prng.below(4) {
+            0 => vec![(Part::Status, vec![0])],
+            1 => record_of(never_filled()),
+            _ => filled_record(prng),
+        });
     }
 }
 
-/// The record of a broken context that was never filled; mostly with one thing that it cannot have.
-fn unfilled_record(prng: &mut Prng) -> Vec<(Part, Vec<u8>)> {
-    let mut record = vec![
-        (Part::Status, vec![2]),
-        (Part::Generation, vec![0]),
-        (Part::LinkSequence, vec![0]),
-        (Part::IdDelta, vec![0, 0]),
-        (Part::TimestampDelta, vec![0, 0, 0, 0]),
-        (Part::HeaderLength, vec![0]),
-    ];
-    match prng.below(7) {
-        0 => record[0].1 = vec![1],
-        1 => record[1].1 = vec![prng.between(1, 63) as u8],
-        2 => record[2].1 = vec![prng.between(1, 15) as u8],
-        3 => record[3].1 = prng.pick(&[[0, 1], [1, 0], [255, 255]]).to_vec(),
-        4 => {
-            let deltas: [u32; 4] = [1, 160, 0x10_0000, u32::MAX];
-            record[4].1 = prng.pick(&deltas).to_be_bytes().to_vec();
+fn record_of(context: Context) -> Vec<Piece> {
+    let mut table = Table {
+        contexts: 1,
+        ..Table::unopened()
+    };
+    table.places[0] = context;
+    // Version, N and K come first.
+    Pieces::of(&file_of(&table)).pieces.split_off(3)
+}
+
+fn filled_record(prng: &mut Prng) -> Vec<Piece> {
+    record_of(some_filled_context(prng))
+}
+
+/// The record of a broken context that was never filled, with something that it cannot have.
+fn unfilled_record(prng: &mut Prng) -> Vec<Piece> {
+    let mut record = record_of(never_filled());
+    for _ in 0..prng.pick(&[1, 1, 1, 2]) {
+        match prng.below(6) {
+            0 => record[0].1 = vec![1],
+            1 => record[1].1 = vec![prng.between(1, 63) as u8],
+            2 => record[2].1 = vec![prng.between(1, 15) as u8],
+            3 => record[3].1 = prng.pick(&[[0, 1], [1, 0], [255, 255]]).to_vec(),
+            4 => {
+                let deltas: [u32; 4] = [1, 160, 0x10_0000, u32::MAX];
+                record[4].1 = prng.pick(&deltas).to_be_bytes().to_vec();
+            }
+            _ => record[5].1 = vec![prng.pick(&[1, 40, 100])],
         }
-        5 => record[5].1 = vec![prng.pick(&[1, 40, 100])],
-        _ => {}
     }
     record
 }
@@ -473,25 +513,13 @@ fn unfilled_record(prng: &mut Prng) -> Vec<(Part, Vec<u8>)> {
 /// where the record may say more than that of a context never filled.
 fn some_wrong_header_length(prng: &mut Prng, old: u8) -> u8 {
     let wrong = [
-        0,
-        0,
-        1,
-        4,
-        36,
-        39,
-        41,
-        42,
-        43,
-        99,
-        101,
-        104,
-        128,
-        255,
-        old.wrapping_add(4),
-        old.wrapping_sub(4),
-        100,
+        [0, 1, 36, 39],
+        [41, 42, 43, 99],
+        [101, 104, 128, 255],
+        [old.wrapping_add(4), old.wrapping_sub(4), 40, 100],
     ];
-    prng.pick(&wrong)
+    let kind = prng.pick(&wrong);
+    prng.pick(&kind)
 }
 
 /// Breaks one rule for headers in files.

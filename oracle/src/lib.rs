@@ -11,6 +11,7 @@ pub mod flows;
 pub mod forge;
 pub mod generate;
 pub mod generate_endpoint;
+pub mod generate_saves;
 pub mod header;
 pub mod mutant;
 pub mod prng;

@@ -161,8 +161,8 @@ pub enum Part {
     End,
 }
 
-/// The fields as far as a load reads them, each with the place where it begins. In a file that is refused
-/// the last one is where; for one that loads it is the end.
+/// The fields as far as a load reads them, each with the place where it begins. The last one is where the
+/// file is refused, or the end if it loads.
 pub fn parts_read(file: &[u8]) -> Vec<(Part, usize)> {
     let mut fields = Fields::new(file);
     // Whether it is refused is not asked here.

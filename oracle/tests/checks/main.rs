@@ -13,4 +13,5 @@ mod published;
 mod refusals;
 mod saved;
 mod scripts;
+mod scripts_of_saves;
 mod soundness;

@@ -35,6 +35,10 @@ checks!(
     some_lists_with_saves,
 );
 
+/// One change to a table or to a context, for tables of changes.
+type TableChange = fn(&mut Table);
+type ContextChange = fn(&mut Context);
+
 // What is saved
 
 fn saves(what: &str, ends: &Ends, file: &[u8]) -> Outcome {
@@ -257,7 +261,7 @@ pub fn saving_refuses(mutant: Mutant) -> Outcome {
         same("room", ends.save(room)?.bytes, file_of_every_kind())?;
     }
     ensure("unchanged", ends.decompressor == before)?;
-    let spoil: [(&str, fn(&mut Table)); 7] = [
+    let spoil: [(&str, TableChange); 7] = [
         ("unopened", |table| *table = Table::unopened()),
         ("N", |table| table.repeats = 15),
         ("K", |table| table.contexts = 65),
@@ -632,7 +636,7 @@ pub fn header_forms(mutant: Mutant) -> Outcome {
 
 /// What a header may have, and what the context then holds.
 pub fn free_header_fields(mutant: Mutant) -> Outcome {
-    let rows: [(&str, Spoil, fn(&mut Context)); 22] = [
+    let rows: [(&str, Spoil, ContextChange); 22] = [
         ("TOS", |h| h[1] = 0xff, |c| c.fields.tos = 0xff),
         ("ID", |h| h[4] = 0xff, |c| c.fields.id = 0xff34),
         ("no flag", |h| h[6] = 0, |c| c.fields.flags = 0),

@@ -9,7 +9,7 @@ use std::collections::{HashMap, VecDeque};
 use std::io::Write;
 use std::process::{Command, Stdio};
 
-fn answer(runner: &mut Runner, line: &str) -> String {
+pub fn answer(runner: &mut Runner, line: &str) -> String {
     let mut text = String::new();
     runner.answer(line, &mut text);
     text
@@ -885,6 +885,7 @@ fn binaries_work_together() {
         &["3", "2000"][..],
         &["3", "2000", "sender"],
         &["3", "2000", "box"],
+        &["3", "2000", "saves"],
     ] {
         binaries_agree(arguments);
     }
