@@ -126,21 +126,16 @@ impl Generator {
 
     /// Broken contexts are asked for again before long, else stretches would stay refused.
     fn recovery_wanted(&mut self) -> bool {
-        let table = &self.runner.decompressor;
-        let broken = table
-            .places
-            .iter()
-            .any(|context| context.status == Status::Broken);
+        let broken = something_broken(&self.runner.decompressor);
         !self.sender_only && broken && self.prng.chance(1, 20)
     }
 
     /// The report, and mostly the request it makes.
     fn plan_recovery(&mut self) {
-        let mut output = [0; 256];
-        let answer = decompressor::report(&self.runner.decompressor, &mut output);
+        let report = report_now(&self.runner.decompressor);
         self.push("p 200".to_string());
-        if answer.length > 0 && self.prng.chance(4, 5) {
-            self.push(format!("q {}", hex(&output[..answer.length])));
+        if !report.is_empty() && self.prng.chance(4, 5) {
+            self.push(format!("q {}", hex(&report)));
         }
     }
 
@@ -288,10 +283,9 @@ impl Generator {
 
     /// Half of the requests are the report the decompressor would give now.
     fn plan_request(&mut self) {
-        let mut output = [0; 256];
-        let answer = decompressor::report(&self.runner.decompressor, &mut output);
-        let bytes = if answer.length > 0 && self.prng.bit() {
-            output[..answer.length].to_vec()
+        let report = report_now(&self.runner.decompressor);
+        let bytes = if !report.is_empty() && self.prng.bit() {
+            report
         } else {
             forge::request(&mut self.prng, self.runner.compressor.contexts)
         };
@@ -299,9 +293,8 @@ impl Generator {
     }
 
     fn plan_report(&mut self) {
-        let mut output = [0; 256];
-        let answer = decompressor::report(&self.runner.decompressor, &mut output);
-        let room = room(&mut self.prng, answer.length);
+        let report = report_now(&self.runner.decompressor);
+        let room = room(&mut self.prng, report.len());
         self.push(format!("p {room}"));
     }
 
@@ -599,6 +592,17 @@ impl Generator {
 pub(crate) fn exact_length(table: &decompressor::Table, link_type: u32, bytes: &[u8]) -> usize {
     let mut output = [0; MOST_BYTES];
     decompressor::receive(&mut table.clone(), link_type, bytes, &mut output).length
+}
+
+pub(crate) fn something_broken(table: &decompressor::Table) -> bool {
+    let mut contexts = table.places.iter();
+    contexts.any(|context| context.status == Status::Broken)
+}
+
+pub(crate) fn report_now(table: &decompressor::Table) -> Vec<u8> {
+    let mut output = [0; 256];
+    let answer = decompressor::report(table, &mut output);
+    output[..answer.length].to_vec()
 }
 
 /// Mostly enough room, often exactly enough, sometimes too little.

@@ -6,15 +6,19 @@ pub mod codes;
 pub mod compressor;
 pub mod decompressor;
 pub mod endpoint;
+pub mod files;
 pub mod flows;
 pub mod forge;
 pub mod generate;
 pub mod generate_endpoint;
+pub mod generate_saves;
 pub mod header;
 pub mod mutant;
 pub mod prng;
 pub mod refusal;
+pub mod saved;
 pub mod script;
+mod way;
 
 /// Link types as numbers beside the bytes.
 pub const PLAIN: u32 = 0;

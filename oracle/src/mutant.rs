@@ -49,10 +49,26 @@ pub enum Mutant {
     RefusedReportNotCounted,
     OpeningKeepsTotals,
     RefusedOpeningClearsTotals,
+    // Saved tables.
+    SaveLosesCarried,
+    SaveLosesMarker,
+    SaveSwapsDeltas,
+    SaveKeepsLengths,
+    SavedLengthCountsItself,
+    SaveRoomFirst,
+    LoadJudgesTable,
+    LoadKeepsPlacesPastContexts,
+    RefusedLoadEmpties,
+    LoadTakesLeftOver,
+    LoadTakesNumbersUnfilled,
+    LoadTakesLiveUnfilled,
+    LoadTakesAnyTimestampDelta,
+    LoadJudgesCutHeader,
+    LoadRefusesOddPort,
 }
 
 impl Mutant {
-    pub const ALL: [Mutant; 41] = [
+    pub const ALL: [Mutant; 56] = [
         Mutant::RunNotCounted,
         Mutant::JumpAdopted,
         Mutant::SingleStep,
@@ -94,5 +110,20 @@ impl Mutant {
         Mutant::RefusedReportNotCounted,
         Mutant::OpeningKeepsTotals,
         Mutant::RefusedOpeningClearsTotals,
+        Mutant::SaveLosesCarried,
+        Mutant::SaveLosesMarker,
+        Mutant::SaveSwapsDeltas,
+        Mutant::SaveKeepsLengths,
+        Mutant::SavedLengthCountsItself,
+        Mutant::SaveRoomFirst,
+        Mutant::LoadJudgesTable,
+        Mutant::LoadKeepsPlacesPastContexts,
+        Mutant::RefusedLoadEmpties,
+        Mutant::LoadTakesLeftOver,
+        Mutant::LoadTakesNumbersUnfilled,
+        Mutant::LoadTakesLiveUnfilled,
+        Mutant::LoadTakesAnyTimestampDelta,
+        Mutant::LoadJudgesCutHeader,
+        Mutant::LoadRefusesOddPort,
     ];
 }

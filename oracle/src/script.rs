@@ -1,17 +1,20 @@
 //! Call scripts: one call per line, one answer line per call, on one compressor's and one
 //! decompressor's table, and on an endpoint with tables of its own. Any field of the two tables can be
-//! written and shown by name, and so can the endpoint's totals.
+//! written and shown by name, and so can the endpoint's totals. The decompressor's table can be saved and
+//! loaded.
 
 use crate::decompressor::Status;
 use crate::endpoint::{self, Endpoint};
 use crate::header::{Fields, MAX_CSRC};
 use crate::refusal::{Answer, SendAnswer};
-use crate::{compressor, decompressor, PLACES};
+use crate::{compressor, decompressor, saved, PLACES};
 
 /// What output rooms are filled with before each call.
 const FILL: u8 = 0xaa;
 /// Most bytes a script may hand over or ask room for.
 pub const MOST_BYTES: usize = 4096;
+/// The same for saved tables, which are longer than packets.
+pub const MOST_SAVED_BYTES: usize = 16_384;
 
 pub const COMPRESSOR_FIELDS: [&str; 47] = [
     "status",
@@ -273,15 +276,15 @@ impl Runner {
                 push_number(out, decompressor::open(&mut self.decompressor, n, k).number);
             }
             "s" => {
-                decode_hex(words.next()?, &mut self.input)?;
-                let room = room(words.next()?)?;
+                decode_hex(words.next()?, MOST_BYTES, &mut self.input)?;
+                let room = room(words.next()?, MOST_BYTES)?;
                 end(words)?;
                 fill(&mut self.output, room);
                 let answer = compressor::send(&mut self.compressor, &self.input, &mut self.output);
                 push_send_answer(out, &self.output, answer);
             }
             "q" => {
-                decode_hex(words.next()?, &mut self.input)?;
+                decode_hex(words.next()?, MOST_BYTES, &mut self.input)?;
                 end(words)?;
                 let answer = compressor::request(&mut self.compressor, &self.input);
                 push_number(out, answer.number);
@@ -290,8 +293,8 @@ impl Runner {
             }
             "r" => {
                 let link_type = number(words.next()?)?;
-                decode_hex(words.next()?, &mut self.input)?;
-                let room = room(words.next()?)?;
+                decode_hex(words.next()?, MOST_BYTES, &mut self.input)?;
+                let room = room(words.next()?, MOST_BYTES)?;
                 end(words)?;
                 fill(&mut self.output, room);
                 let answer = decompressor::receive(
@@ -303,11 +306,24 @@ impl Runner {
                 push_answer(out, &self.output, answer);
             }
             "p" => {
-                let room = room(words.next()?)?;
+                let room = room(words.next()?, MOST_BYTES)?;
                 end(words)?;
                 fill(&mut self.output, room);
                 let answer = decompressor::report(&self.decompressor, &mut self.output);
                 push_answer(out, &self.output, answer);
+            }
+            "v" => {
+                let room = room(words.next()?, MOST_SAVED_BYTES)?;
+                end(words)?;
+                fill(&mut self.output, room);
+                let answer = saved::save(&self.decompressor, &mut self.output);
+                push_answer(out, &self.output, answer);
+            }
+            "l" => {
+                decode_hex(words.next()?, MOST_SAVED_BYTES, &mut self.input)?;
+                end(words)?;
+                let answer = saved::load(&mut self.decompressor, &self.input);
+                push_number(out, answer.number);
             }
             "ws" => {
                 let (name, place, value) = field_words(words)?;
@@ -344,8 +360,8 @@ impl Runner {
                 push_number(out, endpoint::open(&mut self.endpoint, n, k).number);
             }
             "bw" => {
-                decode_hex(words.next()?, &mut self.input)?;
-                let room = room(words.next()?)?;
+                decode_hex(words.next()?, MOST_BYTES, &mut self.input)?;
+                let room = room(words.next()?, MOST_BYTES)?;
                 end(words)?;
                 fill(&mut self.output, room);
                 let answer = endpoint::from_wire(&mut self.endpoint, &self.input, &mut self.output);
@@ -353,8 +369,8 @@ impl Runner {
             }
             "br" => {
                 let link_type = number(words.next()?)?;
-                decode_hex(words.next()?, &mut self.input)?;
-                let room = room(words.next()?)?;
+                decode_hex(words.next()?, MOST_BYTES, &mut self.input)?;
+                let room = room(words.next()?, MOST_BYTES)?;
                 end(words)?;
                 fill(&mut self.output, room);
                 let answer = endpoint::from_radio(
@@ -366,7 +382,7 @@ impl Runner {
                 push_answer(out, &self.output, answer);
             }
             "bp" => {
-                let room = room(words.next()?)?;
+                let room = room(words.next()?, MOST_BYTES)?;
                 end(words)?;
                 fill(&mut self.output, room);
                 let answer = endpoint::report(&mut self.endpoint, &mut self.output);
@@ -413,9 +429,9 @@ fn two_numbers(mut words: Words) -> Option<(u32, u32)> {
     Some(pair)
 }
 
-fn room(word: &str) -> Option<usize> {
+fn room(word: &str, most: usize) -> Option<usize> {
     let room = number(word)? as usize;
-    (room <= MOST_BYTES).then_some(room)
+    (room <= most).then_some(room)
 }
 
 fn place(word: &str) -> Option<usize> {
@@ -437,12 +453,12 @@ fn field_words<'a>(mut words: Words<'a>) -> Option<(&'a str, usize, u32)> {
     Some((name, place, value))
 }
 
-fn decode_hex(word: &str, bytes: &mut Vec<u8>) -> Option<()> {
+fn decode_hex(word: &str, most: usize, bytes: &mut Vec<u8>) -> Option<()> {
     bytes.clear();
     if word == "-" {
         return Some(());
     }
-    if word.is_empty() || word.len() & 1 == 1 || word.len() > 2 * MOST_BYTES {
+    if word.is_empty() || word.len() & 1 == 1 || word.len() > 2 * most {
         return None;
     }
     for pair in word.as_bytes().chunks(2) {

@@ -1,13 +1,13 @@
-//! `gen SEED COUNT [sender|box]`: writes COUNT random calls, the same for the same seed.
+//! `gen SEED COUNT [sender|box|saves]`: writes COUNT random calls, the same for the same seed.
 
-use oracle::{generate, generate_endpoint};
+use oracle::{generate, generate_endpoint, generate_saves};
 use std::io::{self, BufWriter, Write};
 use std::process::ExitCode;
 
 fn main() -> ExitCode {
     let words: Vec<String> = std::env::args().skip(1).collect();
     let Some((seed, count, calls)) = read_arguments(&words) else {
-        eprintln!("usage: gen SEED COUNT [sender|box]");
+        eprintln!("usage: gen SEED COUNT [sender|box|saves]");
         return ExitCode::from(2);
     };
     match write_script(seed, count, calls) {
@@ -27,12 +27,14 @@ enum Calls {
     BothTables,
     Compressor,
     Endpoint,
+    Saves,
 }
 
 fn read_arguments(words: &[String]) -> Option<(u64, usize, Calls)> {
     let (numbers, calls) = match words {
         [numbers @ .., last] if last == "sender" => (numbers, Calls::Compressor),
         [numbers @ .., last] if last == "box" => (numbers, Calls::Endpoint),
+        [numbers @ .., last] if last == "saves" => (numbers, Calls::Saves),
         _ => (words, Calls::BothTables),
     };
     match numbers {
@@ -50,6 +52,10 @@ fn write_script(seed: u64, count: usize, calls: Calls) -> io::Result<()> {
         }
         Calls::Endpoint => {
             let mut generator = generate_endpoint::Generator::new(seed);
+            write_lines(count, || generator.next_line())
+        }
+        Calls::Saves => {
+            let mut generator = generate_saves::Generator::new(seed);
             write_lines(count, || generator.next_line())
         }
     }

@@ -11,5 +11,7 @@ mod lists;
 mod mutants;
 mod published;
 mod refusals;
+mod saved;
 mod scripts;
+mod scripts_of_saves;
 mod soundness;

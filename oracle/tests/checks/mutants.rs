@@ -1,12 +1,12 @@
 //! Every built-in fault is noticed by some check, and the program as it is passes all of them.
 
 use crate::support::Check;
-use crate::{cases, endpoint, layouts, lists, published, refusals, soundness};
+use crate::{cases, endpoint, layouts, lists, published, refusals, saved, soundness};
 use oracle::mutant::Mutant;
 use std::collections::BTreeSet;
 
 fn all_checks() -> Vec<(&'static str, &'static str, Check)> {
-    let groups: [(&str, &[(&str, Check)]); 7] = [
+    let groups: [(&str, &[(&str, Check)]); 8] = [
         ("cases", cases::CHECKS),
         ("published", published::CHECKS),
         ("layouts", layouts::CHECKS),
@@ -14,6 +14,7 @@ fn all_checks() -> Vec<(&'static str, &'static str, Check)> {
         ("soundness", soundness::CHECKS),
         ("lists", lists::CHECKS),
         ("endpoint", endpoint::CHECKS),
+        ("saved", saved::CHECKS),
     ];
     groups
         .iter()
@@ -44,7 +45,7 @@ fn every_mutant_is_caught() {
         caught += 1;
     }
     println!("mutants: {caught} of {} caught", Mutant::ALL.len());
-    assert_eq!(caught, 41);
+    assert_eq!(caught, 56);
 }
 
 #[test]

@@ -9,7 +9,7 @@ use std::collections::{HashMap, VecDeque};
 use std::io::Write;
 use std::process::{Command, Stdio};
 
-fn answer(runner: &mut Runner, line: &str) -> String {
+pub fn answer(runner: &mut Runner, line: &str) -> String {
     let mut text = String::new();
     runner.answer(line, &mut text);
     text
@@ -27,8 +27,10 @@ fn expand(text: &str) -> String {
     words.join(" ")
 }
 
+/// Calls and answers by turns; a line that is too long goes on after a backslash.
 fn transcript(text: &str) {
     let mut runner = Runner::default();
+    let text = text.replace("\\\n         ", "");
     for pair in text.trim().lines().collect::<Vec<_>>().chunks(2) {
         let (call, wanted) = (pair[0].trim(), expand(pair[1].trim()));
         assert_eq!(answer(&mut runner, call), wanted, "answer to {call}");
@@ -203,6 +205,90 @@ fn worked_endpoint_transcript() {
     );
 }
 
+/// Saves and loads, with the packet of the first transcript, whose header as files have it is that of the
+/// packet with IP length, IP checksum and UDP length 0. That file counts 3 bytes, 50 of the live context and
+/// 10 of the one broken before it was filled: 3f hex.
+#[test]
+fn worked_transcript_of_saves() {
+    transcript(
+        "v 0
+         1 0 -
+         v 16384
+         1 0 -
+         l -
+         4
+         l 0006010f03000000
+         5
+         dr 0
+         40*0
+         l 0006010203000000
+         0
+         dr 2
+         2 3 38*0
+         v 8
+         0 8 0006010203000000
+         v 7
+         11 0 -
+         v 0
+         11 0 -
+         or 0 2
+         0
+         r 1 4500400000014000401126c00a0000010a000002138c138e000000008000000100000000000000ffda7a 50
+         0 42 4500002a00014000401126c00a0000010a000002138c138e001600008000000100000000000000ffda7a
+         r 3 0100 9
+         8 0 -
+         v 65
+         0 65 003f010002010000000100000000284500000000014000401100000a0000010a000002138c138e0000000080000001000000\
+         00000000ff02000000000000000000
+         r 3 0001da7a 42
+         0 42 4500002a00024000401126bf0a0000010a000002138c138e001600008000000200000000000000ffda7a
+         v 100
+         0 65 003f010002010001000100000000284500000000024000401100000a0000010a000002138c138e0000000080000002000000\
+         00000000ff02000000000000000000
+         l 003f010002010000000100000000284500000000014000401100000a0000010a000002138c138e000000008000000100000000000000\
+         ff02000000000000000000
+         0
+         dr 0
+         0 2 1 1 167772161 167772162 5004 5006 255 0 64 1 0 0 0 0 1 1 0 0 0 15*0 1 0 0 0
+         dr 1
+         0 2 2 37*0
+         p 5
+         0 5 0101018000
+         r 3 0001da7a 42
+         0 42 4500002a00024000401126bf0a0000010a000002138c138e001600008000000200000000000000ffda7a
+         wr flags 0 4
+         ok
+         v 100
+         1 0 -
+         v 0
+         1 0 -
+         l 00040100010000
+         5
+         l 000501000100
+         4
+         dr 0
+         0 2 1 1 167772161 167772162 5004 5006 255 0 64 4 0 0 0 0 2 2 0 0 0 15*0 1 0 1 0
+         l 000401000100
+         0
+         dr 0
+         0 1 38*0
+         dr 1
+         0 1 38*0
+         ds 0
+         49*0
+         bo 3 4
+         0
+         l 000401050100
+         0
+         v 6
+         0 6 000401050100
+         bp 0
+         0 0 -
+         bt
+         6*0",
+    );
+}
+
 #[test]
 fn lines_that_are_no_calls() {
     let mut runner = Runner::default();
@@ -276,13 +362,60 @@ fn lines_that_are_no_calls() {
         "b",
         "BT",
         "wb 0 1",
+        "v",
+        "v ",
+        "v -",
+        "v x",
+        "v -1",
+        "v 16385",
+        "v 1 1",
+        "V 1",
+        "l",
+        "l ",
+        "l 0",
+        "l 000",
+        "l 0G",
+        "l 0A",
+        "l 000401000100 ",
+        "l 000401000100 0",
+        "l 0004 01000100",
+        "l  000401000100",
+        "L 000401000100",
+        "v 4294967296",
     ] {
         assert_eq!(answer(&mut runner, line), "?", "line {line:?}");
     }
     // None of them changed anything.
     let zeros = vec!["0"; 49].join(" ");
     assert_eq!(answer(&mut runner, "ds 0"), zeros);
+    let zeros = vec!["0"; 40].join(" ");
+    assert_eq!(answer(&mut runner, "dr 0"), zeros);
     assert_eq!(answer(&mut runner, "bt"), "0 0 0 0 0 0");
+}
+
+/// Files and their rooms may be longer than packets and theirs.
+#[test]
+fn longest_words() {
+    let bytes = |count: usize| "00".repeat(count);
+    let mut runner = Runner::default();
+    assert_eq!(answer(&mut runner, "or 1 1"), "0");
+    assert_eq!(answer(&mut runner, "v 16384"), "0 6 000401010100");
+    assert_eq!(answer(&mut runner, "v 16385"), "?");
+    assert_eq!(answer(&mut runner, &format!("l {}", bytes(16384))), "5");
+    assert_eq!(answer(&mut runner, &format!("l {}", bytes(16385))), "?");
+    for (line, known) in [
+        ("p 4096".to_string(), true),
+        ("p 4097".to_string(), false),
+        (format!("q {}", bytes(4096)), true),
+        (format!("q {}", bytes(4097)), false),
+        (format!("r 0 {} 1", bytes(4096)), true),
+        (format!("r 0 {} 1", bytes(4097)), false),
+        ("r 0 - 4097".to_string(), false),
+        (format!("s {} 1", bytes(4096)), true),
+        (format!("s {} 1", bytes(4097)), false),
+    ] {
+        assert_eq!(answer(&mut runner, &line) != "?", known);
+    }
 }
 
 /// Each total can be written and shows up in its own place, and only there.
@@ -752,6 +885,7 @@ fn binaries_work_together() {
         &["3", "2000"][..],
         &["3", "2000", "sender"],
         &["3", "2000", "box"],
+        &["3", "2000", "saves"],
     ] {
         binaries_agree(arguments);
     }

@@ -2,7 +2,7 @@
 
 use oracle::mutant::Mutant;
 use oracle::refusal::Answer;
-use oracle::{compressor, decompressor};
+use oracle::{compressor, decompressor, saved};
 
 /// A check tells what went wrong, if anything did.
 pub type Outcome = Result<(), String>;
@@ -148,6 +148,23 @@ impl Ends {
         let mut output = vec![FILL; room];
         let answer = decompressor::report_with(self.mutant, &self.decompressor, &mut output);
         given(answer.number, 0, answer.length, &output)
+    }
+
+    /// A save, which leaves its table.
+    pub fn save(&self, room: usize) -> Result<Given, String> {
+        let mut output = vec![FILL; room];
+        let answer = saved::save_with(self.mutant, &self.decompressor, &mut output);
+        given(answer.number, 0, answer.length, &output)
+    }
+
+    /// A load; a refused one must not change its table.
+    pub fn load(&mut self, file: &[u8]) -> Result<u8, String> {
+        let before = self.decompressor.clone();
+        let answer = saved::load_with(self.mutant, &mut self.decompressor, file);
+        same("length of a load's answer", answer.length, 0)?;
+        let stays = answer.number == 0 || self.decompressor == before;
+        ensure("a refused load changes nothing", stays)?;
+        Ok(answer.number)
     }
 
     /// Sends with ample room; the link packet must have this type and these bytes.
