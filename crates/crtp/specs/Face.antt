@@ -24,3 +24,6 @@ pub use Rattle.decompressor.specs.Table.{unopened as noDecompressor, openOf as 
 pub use Rattle.decompressor.specs.Receive.{receiveOf}
 pub use Rattle.report.specs.Report.{reportOf}
 pub use Rattle.report.specs.ReportLaws.{table-reportOf}
+pub use Rattle.saves.specs.Saves.{saveOf, loadOf}
+pub use Rattle.saves.specs.SavesLaws.{table-saveOf, load-save}
+pub use Rattle.saves.specs.LoadLaws.{load-read}

@@ -5,8 +5,9 @@
 // keeps its bytes after it; a refused call leaves it as it was.
 //
 // Read first `open_compressor` and `open_decompressor`, then `send` and `receive`, then `report` and `request`, which ask for
-// full headers after a loss that was too long: each contract names the definition that the answer equals. Then read
-// `specs/Robust.antt`: over whole lists of these calls, what is not lost is rebuilt exactly (proved in `proofs/Robust.antt`).
+// full headers after a loss that was too long, then `save` and `load`, which keep a decompressor over a restart: each contract
+// names the definition that the answer equals. Then read `specs/Robust.antt`: over whole lists of these calls, what is not lost is
+// rebuilt exactly (proved in `proofs/Robust.antt`).
 ghost use mathlib.Core.Path.{_≡_};
 ghost use mathlib.Core.List.{[]};
 ghost use Rattle.compressor.specs.Answer as sending;
@@ -17,6 +18,7 @@ ghost use Rattle.decompressor.specs.Answer as receiving;
 ghost use Rattle.decompressor.specs.Table as decompressing;
 ghost use Rattle.decompressor.specs.Receive.{receiveOf};
 ghost use Rattle.report.specs.Report.{reportOf};
+ghost use Rattle.saves.specs.Saves.{saveOf, loadOf};
 
 // What the calls take and answer. A table is kept between calls and need not be looked into; an answer has an outcome, to be
 // taken apart by a `match`, and the table.
@@ -97,4 +99,22 @@ pub fn report(t: DecompressorTable, out: &mut [u8]) -> DecompressorAnswer
     ensures { λ r. ⌜ receiving.said r (now (out .exit)) ≡ reportOf t (now (out .entry)) ⌝ }
 {
     report::report(t, out)
+}
+
+// How many bytes a saved table has at most: an output as long as this is never too short for a save.
+pub const LONGEST_FILE: usize = 7045;
+
+// The decompressor's table as bytes, to be kept over a restart. The table stays as it is.
+pub fn save(t: DecompressorTable, out: &mut [u8]) -> DecompressorAnswer
+    ensures { λ r. ⌜ receiving.said r (now (out .exit)) ≡ saveOf t (now (out .entry)) ⌝ }
+{
+    save::save(t, out)
+}
+
+// The table that was saved as the bytes s. They alone are judged, never the table that is handed in, which stays where they are
+// refused. What was rebuilt since the save is lost for the loaded table.
+pub fn load(t: DecompressorTable, s: &[u8]) -> DecompressorAnswer
+    ensures { λ r. ⌜ receiving.said r [] ≡ loadOf t (now (s .entry)) ⌝ }
+{
+    load::load(t, s)
 }

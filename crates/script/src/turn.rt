@@ -40,7 +40,7 @@ fn keep(buf: &mut [u8], start: usize, end: usize) -> usize
     requires { ⌜ (start ≤ end) × (end ≤ length (now buf)) ⌝ }
     ensures { λ r. ⌜ r ≤ length (now (buf .exit)) ⌝ }
 {
-    let n = least(end - start, 20000);
+    let n = least(end - start, 40000);
     let mut i = 0;
     while i < n {
         buf[i] = buf[start + i];

@@ -1,0 +1,81 @@
+use crate::answer::put_given;
+use crate::answer::put_outcome;
+use crate::line::Ran;
+use crtp::DecompressorTable;
+use script_text::hex::Decoded;
+use script_text::packet::Room;
+use script_text::packet::last_bytes;
+use script_text::packet::last_room;
+use script_text::room::FILL;
+use script_text::room::front;
+use script_text::room::least;
+use script_text::text::put;
+use script_text::word::Word;
+use script_text::word::name_index;
+
+// How many bytes a file, and the output of a save, have at most in a script. The calls take any number.
+pub const MOST: usize = 16384;
+
+fn name_at(line: &[u8], w: Word) -> usize {
+    name_index(b"v l", line, w)
+}
+
+// Whether a line, of which this is the first word, saves or loads the table.
+pub fn is_name(line: &[u8], w: Word) -> bool {
+    name_at(line, w) < 2
+}
+
+fn misread(t: DecompressorTable, text: &mut [u8], at: usize) -> Ran {
+    Ran {
+        at: put(text, at, b'?'),
+        table: t,
+    }
+}
+
+fn save(t: DecompressorTable, room: usize, text: &mut [u8], at: usize) -> Ran {
+    let mut output = [FILL; MOST];
+    let end = least(room, output.len());
+    let answer = crtp::save(t, &mut output[0..end]);
+    let past = put_given(text, at, answer.outcome, front(&output, room));
+    let after = answer.table;
+    Ran {
+        table: after,
+        at: past,
+    }
+}
+
+// v ROOM
+fn save_line(t: DecompressorTable, line: &[u8], w: Word, text: &mut [u8], at: usize) -> Ran {
+    match last_room(line, w, MOST) {
+        Room::Is(room) => save(t, room, text, at),
+        Room::No => misread(t, text, at),
+    }
+}
+
+fn load(t: DecompressorTable, s: &[u8], text: &mut [u8], at: usize) -> Ran {
+    let answer = crtp::load(t, s);
+    let past = put_outcome(text, at, answer.outcome);
+    let after = answer.table;
+    Ran {
+        table: after,
+        at: past,
+    }
+}
+
+// l HEX
+fn load_line(t: DecompressorTable, line: &[u8], w: Word, text: &mut [u8], at: usize) -> Ran {
+    let mut input = [0u8; MOST];
+    match last_bytes(line, w, &mut input) {
+        Decoded::Bytes(n) => load(t, front(&input, n), text, at),
+        Decoded::No => misread(t, text, at),
+    }
+}
+
+// One line without its line end, of which this is the first word.
+pub fn run_line(t: DecompressorTable, line: &[u8], w: Word, text: &mut [u8], at: usize) -> Ran {
+    match name_at(line, w) {
+        0 => save_line(t, line, w, text, at),
+        1 => load_line(t, line, w, text, at),
+        _ => misread(t, text, at),
+    }
+}
