@@ -129,10 +129,12 @@ module _ (t : Table) (f : TableFits t) where
     where
       length-cut : length (take n file) ≡ n
       length-cut = length-take-le n file (omega arith)
+
       long : (k : ℕ) → n ≡ suc (suc k) → wholeOf (take n file) ≡ stopped 2 cut
       long k e = wholeOf-less (take n file) body
           (length-there (take n file) (take k (bodyBytes t)) (ap (λ (m : ℕ). take m file) e ∙ cut-front k))
           (omega (arith, length-cut, file-length))
+
       by : Dec (2 ≤ n) → loadOf u (take n file) ≡ refused u cut []
       by (yes m) = load-stopped u (take n file) (stopped 2 cut) cut (long (n - 2) (omega arith)) refl refl
       by (no m) = load-stopped u (take n file) (stopped 0 cut) cut

@@ -117,6 +117,7 @@ module _ (f : Fixed) (h : Header) where
       where
         both : (a b : Bool) → a ≡ true → b ≡ true → (a && b) ≡ true
         both a b e k = rw (e, k)
+
         first : (a b c : Bool) → a ≡ true → b ≡ true → cond a b c ≡ true
         first a b c e k = rw (e, k)
 
