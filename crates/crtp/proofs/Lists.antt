@@ -5,7 +5,7 @@ use mathlib.Core.Path.{_≡_, refl, sym, ap, _∙_, subst}
 use mathlib.Core.Bool.{Bool, true, false, cond}
 use mathlib.Core.List.{List, [], _∷_, _++_, map, map-append}
 use mathlib.Core.Option.{Option, none, some}
-use lib.Dec.{eqb, ltb}
+use lib.Dec.{eqb}
 use lib.ListN.{length, getD, take, length-map, List·getD-map}
 use Rattle.codes.specs.Bytes as bytes
 use Rattle.compressor.specs.declared.table.Table as compressor
@@ -15,8 +15,8 @@ use Rattle.compressor.specs.Request.{requestOf}
 use Rattle.decompressor.specs.declared.table.Table as decompressor
 use Rattle.decompressor.specs.Answer as receiving
 use Rattle.decompressor.specs.Receive.{receiveOf}
-use Rattle.decompressor.specs.Table.{soundOf}
-use Rattle.saves.specs.Saves.{savedBytes, saveOf, loadOf}
+use Rattle.saves.specs.Saves.{saveOf, loadOf}
+use Rattle.saves.specs.SavesLaws.{table-saveOf}
 use Rattle.calls.specs.Calls as calls
 use Rattle.calls.proofs.Always.{always-each}
 use Rattle.crtp.specs.Robust.{Bytes, Call, send, request, arrival, save, load, other, Sent, Saved, World, givenOut, savedBy}
@@ -115,18 +115,6 @@ saved-noted line r = by (eqb (r .number) 0)
         ≡ map savedOf (calls.saved (cond b (some (take (r .length) (r .output))) none) line)
     by true = refl
     by false = refl
-
--- a save leaves the table
-table-saveOf : (t : decompressor.Table) (output : List ℕ) → saveOf t output .table ≡ t
-unfolding saveOf
-table-saveOf t output = by (soundOf t) (ltb (length output) (length (savedBytes t)))
-  where
-    by : (sound short : Bool)
-        → cond sound (cond short (receiving.refused t 11 output) (receiving.accepted t (savedBytes t) output))
-        (receiving.refused t 1 output) .table ≡ t
-    by true true = refl
-    by true false = refl
-    by false short = refl
 
 pub sentAt-worldOf : (w : Ends·World) (i : ℕ) → sentAt (worldOf w) i ≡ sentOf (getD (w .log) i (ends .nothing))
 sentAt-worldOf w i = List·getD-map sentOf (w .log) i (ends .nothing)
