@@ -39,6 +39,7 @@ header-size-requires : tie.Need-header-size-requires
 header-size-requires c κs = search needs
 
 cast-put8 : tie.Need-cast-put8
+unfolding rebuilt
 cast-put8 c =
     let b2 = c .before .before in
     let b6 = b2 .before .before .before .before in
@@ -66,7 +67,7 @@ put-header-requires c κs =
     let p = b10 .pre in
     let w = b3 .put82 .ensures in
     rw (b6 .rebuild .ensures) (
-      p .0,
+      record { flags = p .0 .flags; payload = p .0 .payload; count = p .0 .count },
       omega (
         arith,
         length-headerPart (a .c) (not-false (a .c .filled) (b7 .if1 .left)) (omega (arith, p .0 .count, list-size b10)),
