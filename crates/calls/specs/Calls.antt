@@ -1,6 +1,7 @@
--- Iarwennol. Lists of calls at any two ends of a link (rules 10.1 to 10.5): what is sent, what arrives, what is lost, and the claim
--- that what is not lost is rebuilt. P: a packet; L: what a send gives out; B: an output; Q: a request; F: what a save gives out;
--- C, D: the tables of compressor and decompressor; SA, RA: the answers of a send and of an arrival.
+-- Iarwennol. Lists of calls at any two ends of a link (rules 10.1 to 10.5, 10.7): what is sent, what arrives, what is lost, and
+-- the claim that what is not lost is rebuilt.
+-- P: a packet; L: what a send gives out; B: an output; Q: a request; F: what a save gives out; C, D: the tables of compressor and
+-- decompressor; SA, RA: the answers of a send and of an arrival.
 -- Used by crtp, which names its two ends; the statement over bytes there can be read without this file.
 use mathlib.Core.Path.{_≡_}
 use mathlib.Core.Bool.{Bool, true, false, cond, not}
@@ -29,12 +30,13 @@ pub record Sent (P L : Type 0) : Type 0 where
   pub orig : P
   pub link : L
 
--- what an accepted save gave out, and the line of the table that it saved
+-- rule 10.7: what an accepted save gave out, and the line of the table that it saved
 pub record Save (F : Type 0) : Type 0 where
   pub form : F
   pub line : List ℕ
 
--- The line of a table: the numbers of the packets that arrived with room in the row of tables that led to it, the last one first.
+-- Rule 10.7: the line of a table has the numbers of the packets that arrived with room in the row of tables that led to it, the
+-- last one first.
 pub record World (P L F C D : Type 0) : Type 0 where
   pub compressor : C
   pub log : List (Sent P L)  -- what accepted sends gave out so far, in order
@@ -82,7 +84,7 @@ has [] m = false
 has (k ∷ ks) m = cond (eqb k m) true (has ks m)
 
 -- A table has lost every packet that is not in its line: one that did not arrive and one that arrived without room (rule 10.3), and
--- one that arrived only on the way to a table that a load has since put away.
+-- one that arrived only on the way to a table that a load has since put away (rule 10.7).
 abbrev pub lost : (line : List ℕ) → ℕ → Bool
 lost line m = not (has line m)
 
