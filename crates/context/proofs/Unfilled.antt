@@ -1,8 +1,8 @@
--- Iarwennol. A sound context that was never filled holds 0 in every field, so that its status is all there is to it. Assumes nothing.
+-- Iarwennol. A sound context that was never filled holds 0 in every field, so its status is all there is to it. Assumes nothing.
 -- Used by the laws of saved tables, where such a context has no header.
 use Prim.Native.Nat.{ℕ}
 use mathlib.Core.Path.{_≡_, refl, ap, _∙_}
-use mathlib.Core.Bool.{Bool, true, false, not, _&&_, and-eq-true-iff}
+use mathlib.Core.Bool.{true, false, not, and-eq-true-iff}
 use mathlib.Core.List.{List, [], _∷_}
 use borrow.Author.Tests.{eqb-true, not-true}
 use lib.Dec.{eqb}

@@ -1,7 +1,7 @@
 -- Iarwennol. Lists of calls that meet the premises and lists that miss them, with their answers computed. Assumes nothing.
 -- So the theorems are about something: a lost full header, a lost CU, an arrival without room, a late arrival, a plain packet, a
 -- save and a load of it.
-use Prim.Native.Nat.{ℕ, _≤_}
+use Prim.Native.Nat.{ℕ}
 use mathlib.Core.Path.{_≡_, refl}
 use mathlib.Core.Bool.{Bool, true, false}
 use mathlib.Core.List.{List, [], _∷_, _++_, map}

@@ -12,7 +12,7 @@ use Rattle.headers.specs.Header.{rtpAt, flowOf, ipOf, headerOf, ipFront, ipBack
 use Rattle.fields.specs.Next.{next, nextByte, nextWord, nextLong}
 use Rattle.context.specs.Decompressor.{rebuilt}
 use Rattle.context.specs.Sound.{emptyDecompressor}
-use Rattle.context.specs.declared.decompressor.Status.the-variants.{Empty, Live, Broken}
+use Rattle.context.specs.declared.decompressor.Status.the-variants.{Live, Broken}
 use Rattle.context.specs.declared.decompressor.DecompressorContext.{DecompressorContext}
 use Rattle.decompressor.specs.declared.table.Table.{Table}
 use Rattle.decompressor.specs.Answer.{Result, accepted, refused}
@@ -41,8 +41,8 @@ header =
 abbrev pub front : (high low : ℕ) → List ℕ
 front high low = high ∷ low ∷ 0x01 ∷ 0x01 ∷ 0x03 ∷ []
 
--- live, generation 5, link sequence 4, ID delta 3, timestamp delta 160, header of 44 bytes; then a context that was never filled, and
--- an empty one: 3 + 54 + 10 + 1 bytes after the length
+-- live, generation 5, link sequence 4, ID delta 3, timestamp delta 160, header of 44 bytes; then a context that was never filled,
+-- and an empty one: 3 + 54 + 10 + 1 bytes after the length
 abbrev pub mixed : List ℕ
 mixed =
     front 0x00 0x44
@@ -165,8 +165,8 @@ pub record Cases : Type 0 where
 
 pub cases : Cases
 unfolding hasCode readByte readWord readLong fixedForm rtpAt flowOf ipOf headerOf ipFront ipBack udpBytes rtpFixed headerBytes next
-    nextByte nextWord nextLong rebuilt emptyDecompressor checked nextUpTo keptForm headerFrom recordBytes fixedOf sizeAllowed contextOf
-    recordOf wholeOf frontOf savedBytes loadOf
+    nextByte nextWord nextLong rebuilt emptyDecompressor checked nextUpTo keptForm headerFrom recordBytes fixedOf sizeAllowed
+    contextOf recordOf wholeOf frontOf savedBytes loadOf
 cases = record {
   save-empty = refl;
   save-mixed = refl;

@@ -3,21 +3,19 @@
 -- Used by nobody: they say what a user may rely on.
 use Prim.Native.Nat.{ℕ, suc, _+_, _-_, _^_, _≤_, _<_}
 use mathlib.Core.Path.{_≡_, refl, sym, ap, subst, _∙_}
-use mathlib.Core.Bool.{Bool, true, false, cond, not, _&&_, true≢false}
+use mathlib.Core.Bool.{Bool, true, false, cond, true≢false}
 use mathlib.Core.List.{List, [], _∷_, _++_}
 use native.Mathlib.Decide.{decLe}
 use native.Mathlib.Omega.{arith}
 use borrow.Author.Tests.{le-leb, lt-leb}
 use lib.Dec.{eqb, leb}
-use lib.ListN.{length, take, drop, length-append}
+use lib.ListN.{length, take, length-append}
 use lib.Seq.{length-take-le}
 use Rattle.codes.specs.Bytes.{bigEndian}
 use Rattle.codes.specs.Numbers.{cut, forbidden}
 use Rattle.codes.specs.Reading.{Reading, has, readByte, readWord}
 use Rattle.packet.specs.Refusal.{verdictNumber, isAccepted}
 use Rattle.fields.specs.declared.place.Place.{Place}
-use Rattle.fields.specs.declared.place.Got8.{Got8}
-use Rattle.fields.specs.declared.place.Got16.{Got16}
 use Rattle.fields.specs.Place.{good, stopped, passed, step, got16}
 use Rattle.fields.specs.Next.{next, nextByte, nextWord}
 use Rattle.fields.specs.NextLaws.{nextWord-written}

@@ -23,7 +23,7 @@ use Rattle.fields.specs.Next.{nextByte, nextWord, nextLong}
 use Rattle.fields.specs.NextLaws.{left-past, nextByte-written, nextWord-written, nextLong-written}
 use Rattle.context.proofs.SoundFacts.{hasCode-zero}
 use Rattle.saves.specs.declared.read.Fixed.{Fixed}
-use Rattle.saves.specs.Saves.{checked, allowed, nextUpTo, fixedOf}
+use Rattle.saves.specs.Saves.{allowed, nextUpTo, fixedOf}
 use Rattle.saves.specs.StepLaws.{Goes, checked-passed, allowed-goes, nextByte-goes, nextWord-goes, nextLong-goes}
 use Rattle.saves.specs.StepLaws.{nextUpTo-goes, nextByte-took, nextWord-took, nextLong-took, nextUpTo-took, nextUpTo-written}
 use Rattle.saves.specs.StepLaws.{nextByte-unwanted, nextWord-unwanted, nextLong-unwanted, nextUpTo-unwanted}
@@ -106,7 +106,8 @@ module _ (s : List ℕ) (at : ℕ) where
 -- the fields of a context in use, as they stand in the bytes
 abbrev pub standing : List ℕ → ℕ → Fixed
 standing s at =
-    fixed (at + 10) (byteAt s at) (byteAt s (at + 1)) (byteAt s (at + 2)) (wordAt s (at + 3)) (longAt s (at + 5)) (byteAt s (at + 9))
+    fixed (at + 10) (byteAt s at) (byteAt s (at + 1)) (byteAt s (at + 2)) (wordAt s (at + 3)) (longAt s (at + 5))
+    (byteAt s (at + 9))
 
 -- the two ways that the fields of a record can be read
 pub data FixedRead (s : List ℕ) (at : ℕ) (f : Fixed) : Type 0 where

@@ -1,16 +1,16 @@
 -- Iarwennol. Laws of what is loaded (rule 14.8): it is a sound table, and saving it gives the same bytes, so that a table has one
 -- file; a file that was cut is refused. Assume nothing.
 -- Used by nobody: they hold the two directions of the format together.
-use Prim.Native.Nat.{ℕ, zero, suc, _+_, _-_, _≤_, _<_}
+use Prim.Native.Nat.{ℕ, zero, suc, _+_, _≤_, _<_}
 use mathlib.Core.Path.{_≡_, refl, sym, ap, subst, _∙_}
 use mathlib.Core.Bool.{Bool, true, false, cond, true≢false}
 use mathlib.Core.List.{List, [], _∷_, _++_, append-assoc, append-nil}
 use native.Mathlib.Numerals.{add-one}
 use native.Mathlib.Omega.{arith}
-use borrow.Author.Tests.{eqb-true, leb-true, le-leb, lt-leb, lt-ltb}
+use borrow.Author.Tests.{eqb-true, leb-true, le-leb}
 use lib.Dec.{eqb, leb}
-use lib.ListN.{length, getD, set, take, drop, replicate, length-set, length-replicate, length-drop, drop-of-length-le}
-use lib.Seq.{drop-drop, drop-set-lt, take-suc-set, length-take-le}
+use lib.ListN.{length, getD, set, take, drop, length-set, length-replicate, length-drop, drop-of-length-le}
+use lib.Seq.{drop-drop, drop-set-lt, take-suc-set}
 use Rattle.codes.specs.Bytes.{AllBytes, bigEndian}
 use Rattle.codes.specs.Numbers.{cut, forbidden}
 use Rattle.codes.specs.Reading.{byteAt, wordAt}
@@ -19,7 +19,6 @@ use Rattle.packet.specs.Refusal.{verdictNumber, isAccepted}
 use Rattle.packet.specs.RefusalLaws.{numberOf-least}
 use Rattle.packet.specs.declared.refusal.Verdict.{Verdict}
 use Rattle.packet.specs.declared.refusal.Verdict.the-variants.{Accepted, Refused}
-use Rattle.settings.specs.declared.Settings.{Settings}
 use Rattle.fields.specs.declared.place.Place.{Place}
 use Rattle.fields.specs.declared.place.Got8.{Got8}
 use Rattle.fields.specs.declared.place.Got16.{Got16}
@@ -28,7 +27,6 @@ use Rattle.fields.specs.Next.{nextByte, nextWord}
 use Rattle.context.specs.All.{all}
 use Rattle.context.specs.Ranges.{ContextInRange}
 use Rattle.context.specs.Sound.{soundDecompressor, emptyDecompressor}
-use Rattle.context.specs.declared.decompressor.DecompressorContext.{DecompressorContext}
 use Rattle.context.proofs.AllLaws.{all-set, all-replicate, all-dropped}
 use Rattle.context.proofs.Arrays.{set-keeps}
 use Rattle.context.proofs.DecompressorSound.{sound-none}
@@ -328,7 +326,8 @@ module _ (t : Table) (s : List ℕ) (a : AllBytes s) where
       by-front : FrontRead s f → loadRecords t (f .settings) (recordsOf s (f .place) (f .settings .contexts)) s .number ≡ 0
           → Loaded s (loadRecords t (f .settings) (recordsOf s (f .place) (f .settings .contexts)) s .table)
       by-front r z =
-          subst (λ (y : Front). FrontRead s y → loadRecords t (y .settings) (recordsOf s (y .place) (y .settings .contexts)) s .number ≡ 0
+          subst (λ (y : Front). FrontRead s y
+          → loadRecords t (y .settings) (recordsOf s (y .place) (y .settings .contexts)) s .number ≡ 0
           → Loaded s (loadRecords t (y .settings) (recordsOf s (y .place) (y .settings .contexts)) s .table))
           (sym (r .same)) records-load r z
   load-by f false e r z = absurd (true≢false (sym (zero-accepted (f .place .verdict) z) ∙ e))

@@ -1,10 +1,9 @@
 -- Iarwennol. Laws of a record that was read: it stands for a sound context, and that context is written as these very bytes. Assume
 -- nothing. Used by the laws of what is loaded.
-use Prim.Native.Nat.{ℕ, suc, _+_, _%_, _≤_, _<_}
+use Prim.Native.Nat.{ℕ, _+_, _%_, _≤_}
 use mathlib.Core.Path.{_≡_, refl, sym, ap, subst, _∙_}
-use mathlib.Core.Bool.{Bool, true, false, cond, not, _&&_, _||_, false≢true, true≢false, and-eq-true-iff}
-use mathlib.Core.List.{List, [], _∷_, _++_, append-assoc}
-use native.Mathlib.Nat.{add-assoc}
+use mathlib.Core.Bool.{Bool, true, false, cond, not, _&&_, _||_}
+use mathlib.Core.List.{List, [], _∷_, _++_}
 use native.Mathlib.Numerals.{add-one}
 use native.Mathlib.Omega.{arith}
 use borrow.Author.Tests.{eqb-true, eqb-false, leb-true}
@@ -34,11 +33,11 @@ use Rattle.context.proofs.Unfilled.{blank}
 use Rattle.saves.specs.declared.read.Fixed.{Fixed}
 use Rattle.saves.specs.declared.read.GotHeader.{GotHeader}
 use Rattle.saves.specs.declared.read.GotContext.{GotContext}
-use Rattle.saves.specs.Saves.{checked, allowed, kept, keptBytes, noHeader, headerField, headerFrom, statusOf, headerPart}
-use Rattle.saves.specs.Saves.{usedBytes, recordBy, recordBytes, fixedOf, unfilledAllowed, headerAllowed, sizeAllowed, contextOf}
-use Rattle.saves.specs.Saves.{recordFrom, recordOf}
+use Rattle.saves.specs.Saves.{allowed, kept, keptBytes, noHeader, headerField, headerFrom, headerPart}
+use Rattle.saves.specs.Saves.{usedBytes, recordBy, recordBytes, fixedOf, unfilledAllowed, headerAllowed, sizeAllowed}
+use Rattle.saves.specs.Saves.{contextOf, recordFrom, recordOf}
 use Rattle.saves.specs.StepLaws.{Goes, checked-passed, allowed-goes}
-use Rattle.saves.specs.KeptLaws.{marked, GoodHeader, HeaderRead, headerFrom-read}
+use Rattle.saves.specs.KeptLaws.{marked, HeaderRead, headerFrom-read}
 use Rattle.saves.specs.FixedLaws.{fixed, FixedFits, fixedBytes, standing, FixedRead, empty, used, fixedOf-read}
 use Rattle.saves.specs.FixedLaws.{fixedOf-goes, fixedBytes-standing}
 use Rattle.saves.specs.RecordLaws.{from-empty, from-broken}
@@ -112,7 +111,8 @@ module _ (f : Fixed) (h : Header) where
     unfolding soundDecompressor soundDecompressorBy
     sound-contextOf =
         let s = bounds-filledSound context bounds-contextOf in
-        status-contextOf (λ n x. soundDecompressorBy x context ≡ true) (both (context .filled) (filledSound context) filled-contextOf s)
+        status-contextOf (λ n x. soundDecompressorBy x context ≡ true)
+        (both (context .filled) (filledSound context) filled-contextOf s)
         (first (context .filled) (filledSound context) (unfilledSound context) filled-contextOf s)
       where
         both : (a b : Bool) → a ≡ true → b ≡ true → (a && b) ≡ true
@@ -245,8 +245,8 @@ module _ (s : List ℕ) (at : ℕ) where
 
       back-zero : fixedBytes 2 0 0 0 0 0 (drop (at + 10) s) ≡ drop at s
       back-zero =
-          sym (ap (λ (x : Fixed). fixedBytes (x .state) (x .generation) (x .sequence) (x .did) (x .dts) (x .size) (drop (at + 10) s))
-          fixed-zero)
+          sym (ap (λ (x : Fixed). fixedBytes (x .state) (x .generation) (x .sequence) (x .did) (x .dts) (x .size)
+          (drop (at + 10) s)) fixed-zero)
           ∙ left-fixed
 
       read-blank : RecordRead s at (record { place = good (at + 10); context = blank Broken })
@@ -289,7 +289,8 @@ module _ (s : List ℕ) (at : ℕ) where
     module _ (fits : FixedFits f) (x : Goes (recordFrom s f .place)) where
       size-allowed : sizeAllowed f ≡ true
       size-allowed =
-          allowed-goes (good (at + 10)) (sizeAllowed f) (headerFrom-goes s (allowed (good (at + 10)) (sizeAllowed f)) (f .size) x) .1
+          allowed-goes (good (at + 10)) (sizeAllowed f)
+          (headerFrom-goes s (allowed (good (at + 10)) (sizeAllowed f)) (f .size) x) .1
 
       size-chosen : cond (eqb (f .size) 0) (unfilledAllowed f) (headerAllowed (f .size)) ≡ true
       unfolding sizeAllowed

@@ -1,19 +1,15 @@
 -- Iarwennol. Laws of a record: what was written of a context is read back; what is read is a sound context, and is written back.
 -- Assume nothing. Used by the laws of a saved table.
-use Prim.Native.Nat.{ℕ, _+_, _*_, _%_, _^_, _≤_, _<_}
-use mathlib.Core.Path.{_≡_, refl, sym, ap, subst, _∙_}
-use mathlib.Core.Bool.{Bool, true, false, cond, not, _&&_, false≢true, and-eq-true-iff}
+use Prim.Native.Nat.{ℕ, _+_, _%_, _^_, _≤_, _<_}
+use mathlib.Core.Path.{_≡_, refl, sym, ap, _∙_}
+use mathlib.Core.Bool.{Bool, true, false, cond, not, _&&_, and-eq-true-iff}
 use mathlib.Core.List.{List, [], _∷_, _++_}
-use native.Mathlib.Nat.{add-assoc}
 use native.Mathlib.Omega.{arith}
-use borrow.Author.Tests.{eqb-true, eq-eqb, ne-eqb, le-leb, not-true}
+use borrow.Author.Tests.{eq-eqb, ne-eqb, le-leb, not-true}
 use lib.Dec.{eqb, leb}
-use lib.ListN.{length, drop, length-append}
-use Rattle.codes.specs.Bytes.{AllBytes, bigEndian}
-use Rattle.codes.specs.Difference.{hasCode}
+use lib.ListN.{length, drop}
 use Rattle.codes.specs.Numbers.{forbidden}
 use Rattle.packet.specs.Ranges.{HeaderInRange}
-use Rattle.packet.specs.declared.header.Header.{Header}
 use Rattle.headers.specs.Header.{headerSize, sizeWith}
 use Rattle.headers.specs.HeaderLaws.{length-headerBytes}
 use Rattle.fields.specs.Place.{good}
@@ -25,12 +21,10 @@ use Rattle.context.specs.declared.decompressor.Status.{Status}
 use Rattle.context.specs.declared.decompressor.Status.the-variants.{Empty, Live, Broken}
 use Rattle.context.specs.declared.decompressor.DecompressorContext.{DecompressorContext}
 use Rattle.context.proofs.SoundFacts.{FilledBounds, filledSound-bounds, hasCode-zero}
-use Rattle.context.proofs.Tests.{cond-both}
 use Rattle.context.proofs.Unfilled.{blank, unfilled-blank}
 use Rattle.saves.specs.declared.read.Fixed.{Fixed}
-use Rattle.saves.specs.declared.read.GotContext.{GotContext}
-use Rattle.saves.specs.Saves.{checked, kept, keptBytes, noHeader, headerFrom, headerPart, usedBytes, recordBy, recordBytes}
-use Rattle.saves.specs.Saves.{fixedOf, sizeAllowed, contextOf, recordFrom, recordOf}
+use Rattle.saves.specs.Saves.{checked, kept, keptBytes, headerFrom, statusOf, headerPart, usedBytes, recordBy, recordBytes}
+use Rattle.saves.specs.Saves.{sizeAllowed, contextOf, recordFrom, recordOf}
 use Rattle.saves.specs.StepLaws.{checked-passed}
 use Rattle.saves.specs.KeptLaws.{marked, headerFrom-bytes}
 use Rattle.saves.specs.FixedLaws.{fixed, FixedFits, fixedBytes, fixedOf-used, fixedOf-empty}
@@ -101,10 +95,10 @@ module _ (c : DecompressorContext) (filled : c .filled ≡ true) (b : FilledBoun
   size-written : (at state : ℕ) → eqb state 0 ≡ false → sizeAllowed (written at state) ≡ true
   unfolding sizeAllowed
   size-written at state u =
-      rw (u, size-kept c, ne-eqb (sizeWith (c .csrc .count)) 0 (λ z. omega arith)) (headerAllowed-size (c .csrc .count) (r .csrc .count))
+      rw (u, size-kept c, ne-eqb (sizeWith (c .csrc .count)) 0 (λ z. omega arith))
+      (headerAllowed-size (c .csrc .count) (r .csrc .count))
 
-  context-written : (at state : ℕ) → (cond (eqb state 0) Empty (cond (eqb state 1) Live Broken)) ≡ c .status
-      → contextOf (written at state) (kept c) ≡ c
+  context-written : (at state : ℕ) → statusOf state ≡ c .status → contextOf (written at state) (kept c) ≡ c
   unfolding contextOf rebuilt
   context-written at state e = λ i. record {
     status = e i;
@@ -132,7 +126,7 @@ module _ (c : DecompressorContext) (filled : c .filled ≡ true) (b : FilledBoun
   length-used state = rw header-part (omega (arith, length-headerBytes 0 0 0 (kept c) (kept-range c r)))
 
   module _ (s : List ℕ) (at state : ℕ) (l : List ℕ) (u : eqb state 0 ≡ false) (h : state ≤ 2)
-      (status : (cond (eqb state 0) Empty (cond (eqb state 1) Live Broken)) ≡ c .status) (e : drop at s ≡ usedBytes state c ++ l) where
+      (status : statusOf state ≡ c .status) (e : drop at s ≡ usedBytes state c ++ l) where
     left : drop at s
         ≡ fixedBytes state (c .link .generation) (c .link .sequence) (c .deltas .id) (c .deltas .timestamp) (headerSize (kept c))
         (keptBytes (kept c) ++ l)
@@ -150,7 +144,12 @@ module _ (c : DecompressorContext) (filled : c .filled ≡ true) (b : FilledBoun
 
     from-written : recordFrom s (written (at + 10) state) ≡ record { place = good (at + 10 + headerSize (kept c)); context = c }
     from-written =
-        rw (size-written (at + 10) state u, checked-passed (good (at + 10)) forbidden, header-read, context-written (at + 10) state status)
+        rw (
+          size-written (at + 10) state u,
+          checked-passed (good (at + 10)) forbidden,
+          header-read,
+          context-written (at + 10) state status,
+        )
 
     past : at + 10 + headerSize (kept c) ≡ at + length (usedBytes state c)
     past = omega (arith, length-used state)
@@ -217,7 +216,8 @@ module _ (c : DecompressorContext) (r : ContextInRange c) (s : List ℕ) (at : �
   back-broken true f u z e = recordOf-used c f (filledSound-bounds c z) r s at 2 l refl (omega arith) (sym u) e
   back-broken false f u z e = unfilled-bytes (unfilled-blank c f z (r .csrc .size) ∙ ap blank u) e
 
-  back-by : (x : Status) → c .status ≡ x → soundDecompressorBy x c ≡ true → drop at s ≡ recordBy x c ++ l → Back s at c (recordBy x c)
+  back-by : (x : Status) → c .status ≡ x → soundDecompressorBy x c ≡ true → drop at s ≡ recordBy x c ++ l
+      → Back s at c (recordBy x c)
   unfolding soundDecompressorBy
   back-by Empty u z e =
       let p = and-eq-true-iff (not (c .filled)) (unfilledSound c) .0 z in

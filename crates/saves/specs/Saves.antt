@@ -86,7 +86,8 @@ headerField s at size =
 -- rule 14.2: a size of 0 has no header
 unfoldable pub headerFrom : List ℕ → Place → (size : ℕ) → GotHeader
 headerFrom s p size =
-    cond (isAccepted (p .verdict) && not (eqb size 0)) (headerField s (p .cursor .at) size) (record { place = p; header = noHeader })
+    cond (isAccepted (p .verdict) && not (eqb size 0)) (headerField s (p .cursor .at) size)
+    (record { place = p; header = noHeader })
 
 ---- The record of a context
 

@@ -1,5 +1,5 @@
--- Iarwennol. Loading what was saved gives the same table, whatever table is handed in (rule 14.8). Assumes nothing: that numbers are
--- within their types, which a definition cannot see, is asked of the table.
+-- Iarwennol. Loading what was saved gives the same table, whatever table is handed in (rule 14.8). Assumes nothing; that numbers
+-- are within their types, which a definition cannot see, is asked of the table.
 -- Used by the theorem on lists of calls (crtp).
 use Prim.Native.Nat.{ℕ, zero, suc, _+_, _-_, _^_, _≤_, _<_}
 use mathlib.Core.Path.{_≡_, refl, sym, ap, _∙_}
@@ -8,14 +8,13 @@ use mathlib.Core.List.{List, [], _∷_, _++_, append-assoc, append-nil}
 use native.Mathlib.Nat.{add-assoc, add-zero}
 use native.Mathlib.Numerals.{add-one}
 use native.Mathlib.Omega.{arith}
-use borrow.Author.Tests.{eq-eqb, le-leb, le-ltb, not-true}
+use borrow.Author.Tests.{eq-eqb, le-leb, not-true}
 use lib.Dec.{ltb}
 use lib.ListN.{length, getD, set, take, drop, replicate, length-append, length-drop, take-append-drop}
 use lib.Seq.{take-suc, set-at, length-take-le, getD-drop, take-append-seam}
 use Rattle.codes.specs.Bytes.{bigEndian}
 use Rattle.codes.specs.Numbers.{unsound, cut, forbidden, noRoom}
 use Rattle.settings.specs.SettingsLaws.{range-least}
-use Rattle.settings.specs.declared.Settings.{Settings}
 use Rattle.fields.specs.Place.{good}
 use Rattle.fields.specs.NextLaws.{left-past, nextByte-written, nextWord-written}
 use Rattle.context.specs.All.{all}
@@ -24,15 +23,15 @@ use Rattle.context.specs.Sound.{soundDecompressor, soundDecompressorBy, unfille
 use Rattle.context.specs.declared.decompressor.Status.{Status}
 use Rattle.context.specs.declared.decompressor.Status.the-variants.{Empty, Live, Broken}
 use Rattle.context.specs.declared.decompressor.DecompressorContext.{DecompressorContext}
-use Rattle.context.proofs.AllLaws.{all-getD, all-dropped}
+use Rattle.context.proofs.AllLaws.{all-dropped}
 use Rattle.context.proofs.Unfilled.{blank, unfilled-blank}
 use Rattle.decompressor.specs.declared.table.Table.{Table}
 use Rattle.decompressor.specs.Answer.{Result, accepted, refused, delivered}
 use Rattle.decompressor.specs.Table.{noContext, contextAt, emptyBy, isEmpty, soundOf, Sound}
-use Rattle.decompressor.specs.TableLaws.{soundOf-made, sound-contextAt, sound-repeats, sound-most}
+use Rattle.decompressor.specs.TableLaws.{sound-contextAt, sound-repeats, sound-most}
 use Rattle.saves.specs.declared.read.GotContexts.{GotContexts}
-use Rattle.saves.specs.Saves.{checked, recordBytes, recordsBytes, recordsOf, recordOf, frontBytes, wholeOf, frontOf, bodyBytes}
-use Rattle.saves.specs.Saves.{savedBytes, saveOf, loadOf}
+use Rattle.saves.specs.Saves.{recordBytes, recordsBytes, recordsOf, frontBytes, wholeOf, frontOf}
+use Rattle.saves.specs.Saves.{bodyBytes, savedBytes, saveOf, loadOf}
 use Rattle.saves.specs.StepLaws.{checked-passed, nextUpTo-written}
 use Rattle.saves.specs.SizeLaws.{recordsBytes-more, length-savedBytes, saves-longest}
 use Rattle.saves.specs.RecordLaws.{recordOf-bytes}
@@ -115,7 +114,8 @@ module _ (t : Table) (f : TableFits t) where
         let c = contextAt t n in
         rw (
           ih,
-          recordOf-bytes c (f .range n h) s (at + length bs) l (sound-contextAt t n (f .sound)) (left-past s at bs (recordBytes c ++ l) e),
+          recordOf-bytes c (f .range n h) s (at + length bs) l (sound-contextAt t n (f .sound))
+              (left-past s at bs (recordBytes c ++ l) e),
           front-more n h,
           bytes-suc n h,
           length-append bs (recordBytes c),

@@ -2,11 +2,11 @@
 -- Used by the laws of a record and of a whole table.
 use Prim.Native.Nat.{ℕ, _+_, _≤_}
 use mathlib.Core.Path.{_≡_, refl, sym, ap, _∙_}
-use mathlib.Core.Bool.{Bool, true, false, cond, not, _&&_, false≢true, and-eq-true-iff}
-use mathlib.Core.List.{List, [], _∷_}
+use mathlib.Core.Bool.{Bool, true, false, cond, not, _&&_, false≢true}
+use mathlib.Core.List.{List, _∷_}
 use native.Mathlib.Omega.{arith}
 use borrow.Author.Tests.{le-leb, leb-true}
-use lib.Dec.{eqb, leb}
+use lib.Dec.{leb}
 use lib.ListN.{length, drop}
 use Rattle.codes.specs.Numbers.{cut, forbidden}
 use Rattle.codes.specs.Reading.{Reading, accepted, refused, has, byteAt, wordAt, longAt, fieldAt, readByte, readWord, readLong}
@@ -14,7 +14,6 @@ use Rattle.packet.specs.Refusal.{isAccepted, verdictOf}
 use Rattle.packet.specs.declared.refusal.Verdict.{Verdict}
 use Rattle.packet.specs.declared.refusal.Verdict.the-variants.{Accepted, Refused}
 use Rattle.fields.specs.declared.place.Place.{Place}
-use Rattle.fields.specs.declared.place.Got8.{Got8}
 use Rattle.fields.specs.Place.{Step, step, passed, good, stopped, got8, got16, got32}
 use Rattle.fields.specs.Next.{taken, next, nextByte, nextWord, nextLong}
 use Rattle.fields.specs.NextLaws.{nextByte-written}
@@ -132,7 +131,8 @@ module _ (s : List ℕ) where
         rw (le-leb (nextByte s (good at) w .field .value) most h, checked-passed (nextByte s (good at) w .place) forbidden)
 
     pub nextUpTo-took : (most : ℕ) → Goes (nextUpTo s (good at) true most .place)
-        → (at + 1 ≤ length s) × (byteAt s at ≤ most) × (nextUpTo s (good at) true most ≡ got8 (step (good (at + 1)) true (byteAt s at)))
+        → (at + 1 ≤ length s) × (byteAt s at ≤ most)
+        × (nextUpTo s (good at) true most ≡ got8 (step (good (at + 1)) true (byteAt s at)))
     unfolding nextUpTo
     nextUpTo-took most x =
         let a = allowed-goes (nextByte s (good at) true .place) (leb (nextByte s (good at) true .field .value) most) x in
