@@ -49,9 +49,9 @@ fn run_decompressor(s: State, line: &[u8], w: Word, text: &mut [u8]) -> State {
     next
 }
 
-fn run_file(s: State, line: &[u8], w: Word, text: &mut [u8]) -> State {
+fn run_files(s: State, line: &[u8], w: Word, text: &mut [u8]) -> State {
     let mut next = s;
-    let r = script_decompressor::file::run_line(next.decompressor, line, w, text, next.at);
+    let r = script_files::line::run_line(next.decompressor, line, w, text, next.at);
     let after = r.table;
     next.decompressor = after;
     next.at = r.at;
@@ -76,8 +76,8 @@ pub fn run_line(s: State, line: &[u8], text: &mut [u8]) -> State {
     if script_endpoint::call::is_name(line, w) {
         return run_endpoint(s, line, w, text);
     }
-    if script_decompressor::file::is_name(line, w) {
-        return run_file(s, line, w, text);
+    if script_files::line::is_name(line, w) {
+        return run_files(s, line, w, text);
     }
     run_decompressor(s, line, w, text)
 }

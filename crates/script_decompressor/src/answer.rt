@@ -31,19 +31,6 @@ fn numbers_of(o: DecompressorOutcome) -> Shown {
     }
 }
 
-// The number alone.
-pub fn put_outcome(text: &mut [u8], at: usize, o: DecompressorOutcome) -> usize {
-    let s = numbers_of(o);
-    put_number(text, at, s.number)
-}
-
-// The number, and what was given out.
-pub fn put_given(text: &mut [u8], at: usize, o: DecompressorOutcome, output: &[u8]) -> usize {
-    let s = numbers_of(o);
-    let a = put_number(text, at, s.number);
-    put_output(text, a, output, s.length)
-}
-
 pub fn put_answer(
     text: &mut [u8],
     at: usize,
@@ -51,10 +38,12 @@ pub fn put_answer(
     o: DecompressorOutcome,
     output: &[u8],
 ) -> usize {
+    let s = numbers_of(o);
+    let a = put_number(text, at, s.number);
     match call {
-        Call::Open(_, _) => put_outcome(text, at, o),
-        Call::Receive(_, _, room) => put_given(text, at, o, front(output, room)),
-        Call::Report(room) => put_given(text, at, o, front(output, room)),
+        Call::Open(_, _) => a,
+        Call::Receive(_, _, room) => put_output(text, a, front(output, room), s.length),
+        Call::Report(room) => put_output(text, a, front(output, room), s.length),
     }
 }
 

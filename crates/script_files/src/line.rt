@@ -1,6 +1,6 @@
-use crate::answer::put_given;
-use crate::answer::put_outcome;
-use crate::line::Ran;
+use crate::answer::put_loaded;
+use crate::answer::put_saved;
+use crtp::DecompressorAnswer;
 use crtp::DecompressorTable;
 use script_text::hex::Decoded;
 use script_text::packet::Room;
@@ -13,18 +13,25 @@ use script_text::text::put;
 use script_text::word::Word;
 use script_text::word::name_index;
 
-// How many bytes a file, and the output of a save, have at most in a script. The calls take any number.
+// How many bytes a file and the output of a save have at most in a script. The calls set no limit.
 pub const MOST: usize = 16384;
+
+// What a line leaves: the table, and how far the text of answers is filled.
+pub struct Ran {
+    pub table: DecompressorTable,
+    pub at: usize,
+}
 
 fn name_at(line: &[u8], w: Word) -> usize {
     name_index(b"v l", line, w)
 }
 
-// Whether a line, of which this is the first word, saves or loads the table.
+// Whether a line, of which this is the first word, is one of these.
 pub fn is_name(line: &[u8], w: Word) -> bool {
     name_at(line, w) < 2
 }
 
+// A line that is no call.
 fn misread(t: DecompressorTable, text: &mut [u8], at: usize) -> Ran {
     Ran {
         at: put(text, at, b'?'),
@@ -32,11 +39,16 @@ fn misread(t: DecompressorTable, text: &mut [u8], at: usize) -> Ran {
     }
 }
 
+fn save_into(t: DecompressorTable, room: usize, output: &mut [u8]) -> DecompressorAnswer {
+    let end = least(room, output.len());
+    crtp::save(t, &mut output[0..end])
+}
+
 fn save(t: DecompressorTable, room: usize, text: &mut [u8], at: usize) -> Ran {
     let mut output = [FILL; MOST];
-    let end = least(room, output.len());
-    let answer = crtp::save(t, &mut output[0..end]);
-    let past = put_given(text, at, answer.outcome, front(&output, room));
+    let answer = save_into(t, room, &mut output);
+    let outcome = answer.outcome;
+    let past = put_saved(text, at, outcome, front(&output, room));
     let after = answer.table;
     Ran {
         table: after,
@@ -54,7 +66,8 @@ fn save_line(t: DecompressorTable, line: &[u8], w: Word, text: &mut [u8], at: us
 
 fn load(t: DecompressorTable, s: &[u8], text: &mut [u8], at: usize) -> Ran {
     let answer = crtp::load(t, s);
-    let past = put_outcome(text, at, answer.outcome);
+    let outcome = answer.outcome;
+    let past = put_loaded(text, at, outcome);
     let after = answer.table;
     Ran {
         table: after,
