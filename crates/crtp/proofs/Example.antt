@@ -122,17 +122,19 @@ missed =
 abbrev saving : List robust.Call
 saving = map asRobust list ++ (robust.save narrow ∷ robust.save roomy ∷ [])
 
--- after it a packet arrives, then the table is loaded, and that packet is lost; the next two are rebuilt
+-- after it a packet on the context and a plain one arrive, then the table is loaded, and both are lost; the next two are rebuilt
 abbrev restored : List robust.Call
 restored =
     saving
     ++ (robust.send (bytes packet6 refl) wide
     ∷ robust.arrival 7 wide
+    ∷ robust.send (bytes odd refl) wide
+    ∷ robust.arrival 8 wide
     ∷ robust.load 0 decompressing.unopened
     ∷ robust.send (bytes packet7 refl) wide
-    ∷ robust.arrival 8 wide
-    ∷ robust.send (bytes packet8 refl) wide
     ∷ robust.arrival 9 wide
+    ∷ robust.send (bytes packet8 refl) wide
+    ∷ robust.arrival 10 wide
     ∷ [])
 
 -- two packets arrive before the load, and are lost
@@ -174,12 +176,12 @@ pub record Computed : Type 0 where
   pub refused : answers origin (map asRobust missed) ≡ shown 8 [] ∷ []
   missing : losses 0 missed 0 (after start missed .sent) ≡ true ∷ true ∷ true ∷ false ∷ []
   -- of the list with a save and a load of it: its answers, and the types: two full headers, two CU, two full headers by request,
-  -- one plain packet, two CU, one CR; and it is allowed
+  -- one plain packet, a CU, one plain packet, a CU and a CR; and it is allowed
   answered :
       answers origin restored
       ≡ shown 0 packet1 ∷ shown 0 packet3 ∷ shown 11 [] ∷ shown 0 packet5 ∷ shown 0 odd
-      ∷ shown 0 packet6 ∷ shown 0 packet7 ∷ shown 0 packet8 ∷ []
-  given : kinds (robust.after origin restored .sent) ≡ 1 ∷ 1 ∷ 2 ∷ 2 ∷ 1 ∷ 1 ∷ 0 ∷ 2 ∷ 2 ∷ 3 ∷ []
+      ∷ shown 0 packet6 ∷ shown 0 odd ∷ shown 0 packet7 ∷ shown 0 packet8 ∷ []
+  given : kinds (robust.after origin restored .sent) ≡ 1 ∷ 1 ∷ 2 ∷ 2 ∷ 1 ∷ 1 ∷ 0 ∷ 2 ∷ 0 ∷ 2 ∷ 3 ∷ []
   allowed : areAllowed 1 origin restored ≡ true
   -- of the last list its answers, and what is lost at its last arrival
   stale :
