@@ -5,7 +5,7 @@ use mathlib.Core.Path.{_≡_, refl, ap}
 use mathlib.Core.List.{List, [], _∷_, _++_}
 use native.Mathlib.Nat.{not-suc-le-zero, le-of-suc-le-suc}
 use native.Mathlib.Omega.{arith}
-use lib.ListN.{length, drop}
+use lib.ListN.{length, take, drop}
 use Rattle.codes.specs.Bytes.{AllBytes, none, more, bigEndian}
 use Rattle.codes.specs.Reading.{byteAt, wordAt, longAt}
 
@@ -20,6 +20,11 @@ pub allBytes-drop : (n : ℕ) {s : List ℕ} → AllBytes s → AllBytes (drop n
 allBytes-drop zero a = a
 allBytes-drop (suc n) none = none
 allBytes-drop (suc n) (more h a) = allBytes-drop n a
+
+pub allBytes-take : (n : ℕ) {s : List ℕ} → AllBytes s → AllBytes (take n s)
+allBytes-take zero a = none
+allBytes-take (suc n) none = none
+allBytes-take (suc n) (more h a) = more h (allBytes-take n a)
 
 pub wordAt-lt : {s : List ℕ} → AllBytes s → (at : ℕ) → wordAt s at < 2 ^ 16
 wordAt-lt a at = omega (arith, allBytes-byteAt a at, allBytes-byteAt a (at + 1))

@@ -47,7 +47,7 @@ zero-flow f e =
       ssrc = eqb-true (f .ssrc) 0 (t .7) i;
     }
 
-zero-ip : (p : Ip) → zeroIp p ≡ true → p ≡ noIp
+pub zero-ip : (p : Ip) → zeroIp p ≡ true → p ≡ noIp
 zero-ip p e =
     let t = all-of-eight true true true true (eqb (p .tos) 0) (eqb (p .ttl) 0) (eqb (p .flags) 0) (eqb (p .id) 0) e in
     λ i. record {
@@ -57,7 +57,7 @@ zero-ip p e =
       id = eqb-true (p .id) 0 (t .7) i;
     }
 
-zero-rtp : (r : Rtp) → zeroRtp r ≡ true → r ≡ noRtp
+pub zero-rtp : (r : Rtp) → zeroRtp r ≡ true → r ≡ noRtp
 zero-rtp r e =
     let t = all-of-eight true true true (not (r .padding)) (not (r .extension)) (eqb (r .payload) 0) (eqb (r .sequence) 0)
     (eqb (r .timestamp) 0) e in

@@ -1,6 +1,6 @@
 -- Iarwennol. Laws of a saved header: what was written is read back, and what was read is written back. Assume nothing.
 -- Used by the laws of a record.
-use Prim.Native.Nat.{ℕ, zero, suc, _+_, _≤_}
+use Prim.Native.Nat.{ℕ, _+_, _≤_}
 use mathlib.Core.Path.{_≡_, refl, sym, ap, _∙_}
 use mathlib.Core.Bool.{Bool, true, false, cond, _||_, false≢true}
 use mathlib.Core.List.{List, [], _++_, append-nil}
@@ -9,11 +9,11 @@ use borrow.Author.Tests.{eqb-true, eq-eqb, ne-eqb, le-leb, leb-true}
 use lib.Dec.{eqb}
 use lib.ListN.{length, take, drop, length-append, length-drop, drop-of-length-le}
 use lib.Seq.{take-append-seam, length-take-le}
-use Rattle.codes.specs.Bytes.{AllBytes, none, more}
+use Rattle.codes.specs.Bytes.{AllBytes}
 use Rattle.codes.specs.Numbers.{cut, forbidden}
 use Rattle.codes.specs.Reading.{has, wordAt}
 use Rattle.codes.specs.RoundTrip.{left-length}
-use Rattle.codes.proofs.BytesRead.{allBytes-drop}
+use Rattle.codes.proofs.BytesRead.{allBytes-take, allBytes-drop}
 use Rattle.packet.proofs.Chain.{all-of-eight}
 use Rattle.packet.specs.Refusal.{isAccepted}
 use Rattle.packet.specs.Ranges.{HeaderInRange}
@@ -133,11 +133,6 @@ module _ {p : List ℕ} (a : AllBytes p) (f : KeptForm (length p) p) where
   pub good-headerOf : GoodHeader p (headerOf p)
   good-headerOf =
       record { range = headerOf-range a; marks = marks-headerOf; size = size-headerOf; back = bytes-headerOf }
-
-allBytes-take : (n : ℕ) {s : List ℕ} → AllBytes s → AllBytes (take n s)
-allBytes-take zero a = none
-allBytes-take (suc n) none = none
-allBytes-take (suc n) (more h a) = more h (allBytes-take n a)
 
 -- a header that was accepted: all its bytes are there, and it is one that a save writes
 pub record HeaderRead (s : List ℕ) (at n : ℕ) (g : GotHeader) : Type 0 where

@@ -23,6 +23,7 @@ use Rattle.context.specs.Sound.{zeroFlow, zeroIp, zeroRtp, zeroList, zeroDeltas
 use Rattle.context.specs.Sound.{filledSound, unfilledSound, soundDecompressor, soundDecompressorBy}
 use Rattle.context.specs.Decompressor.{rebuilt}
 use Rattle.context.proofs.SoundFacts.{filledSound-bounds, soundList-count}
+use Rattle.context.proofs.Unfilled.{zero-ip, zero-rtp}
 use Rattle.context.specs.declared.decompressor.Status.{Status}
 use Rattle.context.specs.declared.decompressor.Status.the-variants.{Empty, Live, Broken}
 use Rattle.context.specs.declared.decompressor.DecompressorContext.{DecompressorContext}
@@ -40,18 +41,6 @@ narrow-filled c e =
     let b = filledSound-bounds c e in
     record { flags = omega (arith, b .flags); payload = omega (arith, b .payload); count = soundList-count (c .csrc) (b .list) }
 
-zeroIp-flags : (c : DecompressorContext) → zeroIp (c .ip) ≡ true → c .ip .flags ≡ 0
-zeroIp-flags c e =
-    let a = all-of-eight true true true true (eqb (c .ip .tos) 0) (eqb (c .ip .ttl) 0) (eqb (c .ip .flags) 0)
-    (eqb (c .ip .id) 0) e in
-    eqb-true (c .ip .flags) 0 (a .6)
-
-zeroRtp-payload : (c : DecompressorContext) → zeroRtp (c .rtp) ≡ true → c .rtp .payload ≡ 0
-zeroRtp-payload c e =
-    let a = all-of-eight true true true (not (c .rtp .padding)) (not (c .rtp .extension)) (eqb (c .rtp .payload) 0)
-    (eqb (c .rtp .sequence) 0) (eqb (c .rtp .timestamp) 0) e in
-    eqb-true (c .rtp .payload) 0 (a .5)
-
 zeroList-count : (l : Csrc) → zeroList l ≡ true → l .count ≡ 0
 unfolding zeroList
 zeroList-count l e = eqb-true (l .count) 0 (and-eq-true-iff (eqb (l .count) 0) (zeros (l .words)) .0 e .0)
@@ -62,8 +51,8 @@ narrow-unfilled c e =
     let a = all-of-eight (zeroFlow (c .flow)) (zeroIp (c .ip)) (zeroRtp (c .rtp)) (zeroList (c .csrc)) (not (c .carried))
     (not (c .marker)) (zeroDeltas (c .deltas)) (zeroLink (c .link)) e in
     record {
-      flags = omega (arith, zeroIp-flags c (a .1));
-      payload = omega (arith, zeroRtp-payload c (a .2));
+      flags = rw (zero-ip (c .ip) (a .1)) (omega arith);
+      payload = rw (zero-rtp (c .rtp) (a .2)) (omega arith);
       count = omega (arith, zeroList-count (c .csrc) (a .3));
     }
 

@@ -1,4 +1,4 @@
-use Rattle.load.specs.LoadLaws.{frontOf-most, load-refused, load-read}
+use Rattle.load.specs.LoadLaws.{frontOf-most, load-refused, load-records}
 use Rattle.packet.specs.Refusal.{isAccepted}
 use mathlib.Core.Path.{ap}
 use borrow.Author.Needs.{needs}
@@ -36,7 +36,7 @@ returns c =
     let b12 = b10 .before .before in
     let a = b12 .args in
     let front = b10 .read-front in
-    load-read (a .t) (a .s .now) (front .result) (front .ensures) (b5 .read-records .result) (c .before .allow .result) _
+    load-records (a .t) (a .s .now) (front .result) (front .ensures) (b5 .read-records .result) (c .before .allow .result) _
     (b7 .enum-told .given .1) (b5 .read-records .ensures) (c .before .allow .ensures) (c .settle .ensures)
 
 returns-2 : tie.Need-returns-2

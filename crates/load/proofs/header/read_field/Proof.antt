@@ -1,4 +1,5 @@
-use Rattle.load.specs.LoadLaws.{part-size, keptForm-size}
+use Rattle.load.specs.LoadLaws.{part-size}
+use Rattle.saves.specs.KeptLaws.{keptForm-true}
 use Rattle.codes.specs.ReadingLaws.{has-there}
 use borrow.Author.Tests.{not-true, not-false}
 use mathlib.Core.Path.{sym, _∙_}
@@ -76,7 +77,7 @@ read-header-requires c κs =
     let e = sym (c .before .kept-form .ensures) ∙ not-false (c .before .kept-form .result) (c .if2 .left) in
     omega (
       arith,
-      keptForm-size (a .size) _ e,
+      keptForm-true (a .size) _ e .size,
       has-there (a .s .now) (a .cursor .at) (a .size) (b4 .has .result) (b4 .has .ensures) (b3 .if1 .left),
     )
 
