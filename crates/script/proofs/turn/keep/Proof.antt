@@ -8,7 +8,7 @@ use Rattle.script.proofs.turn.keep.Tie as tie
 
 abbrev Inv-loop : tie.InvT-loop
 Inv-loop buf₀ start end n i₀ buf i =
-    (start ≤ end) × (end ≤ length buf₀) × (n ≤ end - start) × (n ≤ 20000) × (i ≤ n) × (length buf ≡ length buf₀)
+    (start ≤ end) × (end ≤ length buf₀) × (n ≤ end - start) × (n ≤ 40000) × (i ≤ n) × (length buf ≡ length buf₀)
 
 abbrev μ-loop : tie.MeasureT-loop
 μ-loop buf₀ start end n i₀ buf i = n - i
