@@ -1,5 +1,5 @@
--- Iarwennol. A saved table (rules 14.1 to 14.8): its bytes, and what bytes stand for. Part by part in the order of the layout, each
--- with what a save writes there and what a load takes there.
+-- Iarwennol. A saved table (rules 14.1 to 14.7): its bytes, and what bytes stand for. Part by part in the order of the layout,
+-- each with what a save writes there and what a load takes there.
 -- Used by the contracts of save and load, and by the theorem on lists of calls (crtp), which is about these very definitions.
 use Prim.Native.Nat.{ℕ, zero, suc, _+_, _%_}
 use mathlib.Core.Bool.{Bool, true, false, cond, not, _&&_, _||_}
@@ -50,12 +50,88 @@ nextUpTo s p wanted most =
     let g : Got8 = nextByte s p wanted in
     record { place = allowed (g .place) (leb (g .field .value) most); field = g .field }
 
----- The header of a record
+---- What stands before the records
+
+-- rule 14.1
+abbrev pub version : ℕ
+version = 1
+
+-- rule 14.1: version, N, K
+abbrev pub frontBytes : Settings → List ℕ
+frontBytes s = (version ∷ []) ++ ((s .repeats ∷ []) ++ (s .contexts ∷ []))
+
+-- rule 14.5: the length of all that follows: 4 where there is less, 5 where there is more
+unfoldable pub wholeOf : List ℕ → Place
+wholeOf s =
+    let size : Got16 = nextWord s (good 0) true in
+    allowed (checked (size .place) (leb (2 + size .field .value) (length s)) cut) (leb (length s) (2 + size .field .value))
+
+-- rules 14.5, 14.6: version 1, N up to 14, K from 1 to 64
+unfoldable pub frontOf : List ℕ → Front
+frontOf s =
+    let first : Got8 = nextByte s (wholeOf s) true in
+    let repeats : Got8 = nextUpTo s (allowed (first .place) (eqb (first .field .value) version)) true 14 in
+    let contexts : Got8 = nextUpTo s (repeats .place) true 64 in
+    record {
+      place = allowed (contexts .place) (leb 1 (contexts .field .value));
+      settings = record { repeats = repeats .field .value; contexts = contexts .field .value };
+    }
+
+---- The record of a context: its fields before the header
+
+-- rule 14.2: the state of a context as a number, and back
+abbrev pub stateOf : Status → ℕ
+stateOf Empty = 0
+stateOf Live = 1
+stateOf Broken = 2
+
+abbrev pub statusOf : ℕ → Status
+statusOf state = cond (eqb state (stateOf Empty)) Empty (cond (eqb state (stateOf Live)) Live Broken)
+
+-- rules 14.2, 14.5, 14.6: up to the header's size; those past the state are not there where the context is empty
+unfoldable pub fixedOf : List ℕ → Place → Fixed
+fixedOf s p =
+    let state : Got8 = nextUpTo s p true 2 in
+    let used = not (eqb (state .field .value) (stateOf Empty)) in
+    let generation : Got8 = nextUpTo s (state .place) used 63 in
+    let sequence : Got8 = nextUpTo s (generation .place) used 15 in
+    let did : Got16 = nextWord s (sequence .place) used in
+    let dts : Got32 = nextLong s (did .place) used in
+    let size : Got8 = nextByte s (allowed (dts .place) (hasCode 32 (dts .field .value))) used in
+    record {
+      place = size .place;
+      state = state .field .value;
+      generation = generation .field .value;
+      sequence = sequence .field .value;
+      did = did .field .value;
+      dts = dts .field .value;
+      size = size .field .value;
+    }
+
+-- rule 14.6: without a header only a broken context is saved, and that one holds 0 everywhere
+abbrev pub unfilledAllowed : Fixed → Bool
+unfilledAllowed f =
+    eqb (f .state) (stateOf Broken)
+    && eqb (f .generation) 0
+    && eqb (f .sequence) 0
+    && eqb (f .did) 0
+    && eqb (f .dts) 0
+
+-- rule 14.6: 40, and 4 for each of up to 15 CSRC words
+abbrev pub headerAllowed : (size : ℕ) → Bool
+headerAllowed size = leb 40 size && leb size 100 && eqb (size % 4) 0
+
+-- rule 14.6
+unfoldable pub sizeAllowed : Fixed → Bool
+sizeAllowed f = cond (eqb (f .state) (stateOf Empty)) true (cond (eqb (f .size) 0) (unfilledAllowed f) (headerAllowed (f .size)))
+
+---- Its header
 
 -- rule 14.3: the header at which the context stands; both lengths and the IP checksum are 0, the UDP checksum is FFFF or 0000
 abbrev pub kept : DecompressorContext → Header
 kept c = rebuilt c 0xFFFF
 
+-- rule 14.3
 abbrev pub keptBytes : Header → List ℕ
 keptBytes h = headerBytes 0 0 0 h
 
@@ -69,6 +145,7 @@ keptForm size p =
     && (eqb (wordAt p 26) 0 || eqb (wordAt p 26) 0xFFFF)
     && eqb (sizeWith (countAt p 28)) size
 
+-- what is got where there is none
 abbrev pub noHeader : Header
 noHeader = record { flow = noFlow; ip = noIp; rtp = noRtp; csrc = noList; marker = false; checksum = 0 }
 
@@ -89,16 +166,7 @@ headerFrom s p size =
     cond (isAccepted (p .verdict) && not (eqb size 0)) (headerField s (p .cursor .at) size)
     (record { place = p; header = noHeader })
 
----- The record of a context
-
--- rule 14.2: the state of a context as a number, and back
-abbrev pub stateOf : Status → ℕ
-stateOf Empty = 0
-stateOf Live = 1
-stateOf Broken = 2
-
-abbrev pub statusOf : ℕ → Status
-statusOf state = cond (eqb state 0) Empty (cond (eqb state 1) Live Broken)
+---- The record, whole
 
 -- rule 14.2: the header's size and the header, where the context was ever filled
 abbrev pub headerPart : DecompressorContext → List ℕ
@@ -114,48 +182,13 @@ usedBytes state c =
 
 -- rule 14.2: of an empty context the state alone
 abbrev pub recordBy : Status → DecompressorContext → List ℕ
-recordBy Empty c = 0 ∷ []
-recordBy Live c = usedBytes 1 c
-recordBy Broken c = usedBytes 2 c
+recordBy Empty c = stateOf Empty ∷ []
+recordBy Live c = usedBytes (stateOf Live) c
+recordBy Broken c = usedBytes (stateOf Broken) c
 
+-- rule 14.2
 unfoldable pub recordBytes : DecompressorContext → List ℕ
 recordBytes c = recordBy (c .status) c
-
--- rules 14.5, 14.6: its fields up to the header's size; those past the state are not there where it is 0
-unfoldable pub fixedOf : List ℕ → Place → Fixed
-fixedOf s p =
-    let state : Got8 = nextUpTo s p true 2 in
-    let used = not (eqb (state .field .value) 0) in
-    let generation : Got8 = nextUpTo s (state .place) used 63 in
-    let sequence : Got8 = nextUpTo s (generation .place) used 15 in
-    let did : Got16 = nextWord s (sequence .place) used in
-    let dts : Got32 = nextLong s (did .place) used in
-    let size : Got8 = nextByte s (allowed (dts .place) (hasCode 32 (dts .field .value))) used in
-    record {
-      place = size .place;
-      state = state .field .value;
-      generation = generation .field .value;
-      sequence = sequence .field .value;
-      did = did .field .value;
-      dts = dts .field .value;
-      size = size .field .value;
-    }
-
--- rule 14.6: without a header only a broken context is saved, and that one holds 0 everywhere
-abbrev pub unfilledAllowed : Fixed → Bool
-unfilledAllowed f =
-    eqb (f .state) 2
-    && eqb (f .generation) 0
-    && eqb (f .sequence) 0
-    && eqb (f .did) 0
-    && eqb (f .dts) 0
-
--- rule 14.6: 40, and 4 for each of up to 15 CSRC words
-abbrev pub headerAllowed : (size : ℕ) → Bool
-headerAllowed size = leb 40 size && leb size 100 && eqb (size % 4) 0
-
-unfoldable pub sizeAllowed : Fixed → Bool
-sizeAllowed f = cond (eqb (f .state) 0) true (cond (eqb (f .size) 0) (unfilledAllowed f) (headerAllowed (f .size)))
 
 -- rules 14.2, 14.3: the context that a record stands for
 unfoldable pub contextOf : Fixed → Header → DecompressorContext
@@ -172,11 +205,13 @@ contextOf f h = record {
   link = record { sequence = f .sequence; generation = f .generation };
 }
 
+-- rules 14.2, 14.5: fields, then header
 abbrev pub recordFrom : List ℕ → Fixed → GotContext
 recordFrom s f =
     let h : GotHeader = headerFrom s (allowed (f .place) (sizeAllowed f)) (f .size) in
     record { place = h .place; context = contextOf f (h .header) }
 
+-- rules 14.2, 14.5
 unfoldable pub recordOf : List ℕ → Place → GotContext
 recordOf s p = recordFrom s (fixedOf s p)
 
@@ -187,6 +222,7 @@ abbrev pub recordsBytes : List DecompressorContext → List ℕ
 recordsBytes [] = []
 recordsBytes (c ∷ cs) = recordBytes c ++ recordsBytes cs
 
+-- one record more
 abbrev pub withRecord : (n : ℕ) → GotContexts → GotContext → GotContexts
 withRecord n q r = record { place = r .place; contexts = set (q .contexts) n (r .context) }
 
@@ -195,35 +231,13 @@ abbrev pub recordsOf : List ℕ → Place → (n : ℕ) → GotContexts
 recordsOf s p zero = record { place = p; contexts = replicate 64 emptyDecompressor }
 recordsOf s p (suc n) = let q : GotContexts = recordsOf s p n in withRecord n q (recordOf s (q .place))
 
----- What stands before them
-
--- rule 14.1: version, N, K
-abbrev pub frontBytes : Settings → List ℕ
-frontBytes s = (1 ∷ []) ++ ((s .repeats ∷ []) ++ (s .contexts ∷ []))
-
--- rule 14.5: the length of all that follows: 4 where there is less, 5 where there is more
-unfoldable pub wholeOf : List ℕ → Place
-wholeOf s =
-    let size : Got16 = nextWord s (good 0) true in
-    allowed (checked (size .place) (leb (2 + size .field .value) (length s)) cut) (leb (length s) (2 + size .field .value))
-
--- rules 14.5, 14.6: version 1, N up to 14, K from 1 to 64
-unfoldable pub frontOf : List ℕ → Front
-frontOf s =
-    let version : Got8 = nextByte s (wholeOf s) true in
-    let repeats : Got8 = nextUpTo s (allowed (version .place) (eqb (version .field .value) 1)) true 14 in
-    let contexts : Got8 = nextUpTo s (repeats .place) true 64 in
-    record {
-      place = allowed (contexts .place) (leb 1 (contexts .field .value));
-      settings = record { repeats = repeats .field .value; contexts = contexts .field .value };
-    }
-
 ---- A table, whole
 
 -- rule 14.1: the length first
 abbrev pub bodyBytes : Table → List ℕ
 bodyBytes t = frontBytes (t .settings) ++ recordsBytes (take (t .settings .contexts) (t .contexts))
 
+-- rule 14.1
 unfoldable pub savedBytes : Table → List ℕ
 savedBytes t = bigEndian 2 (length (bodyBytes t)) ++ bodyBytes t
 
@@ -247,5 +261,6 @@ loadFrom t f s =
     (loadRecords t (f .settings) (recordsOf s (f .place) (f .settings .contexts)) s)
     (refused t (verdictNumber (f .place .verdict)) [])
 
+-- rules 14.5, 14.7
 unfoldable pub loadOf : Table → (s : List ℕ) → Result
 loadOf t s = loadFrom t (frontOf s) s
