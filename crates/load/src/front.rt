@@ -9,6 +9,7 @@ use fields::next::next_word;
 use fields::place::Place;
 use packet::refusal::Refusal;
 use packet::refusal::Verdict;
+use saves::layout::VERSION;
 use saves::read::Front;
 use settings::Settings;
 
@@ -34,7 +35,7 @@ pub fn read_front(s: &[u8]) -> Front
     let start = read_whole(s);
     let version = next_byte(s, start, true);
     let field = version.field;
-    let place = allow(version.place, field.value == 1);
+    let place = allow(version.place, field.value == VERSION);
     let repeats = next_up_to(s, place, true, Settings::MAX_REPEATS as u8);
     let contexts = next_up_to(s, repeats.place, true, Settings::MAX_CONTEXTS as u8);
     let n = repeats.field;

@@ -13,6 +13,9 @@ use fields::next::next_long;
 use fields::next::next_word;
 use fields::place::Place;
 use packet::header::Header;
+use saves::layout::BROKEN;
+use saves::layout::EMPTY;
+use saves::layout::LIVE;
 use saves::read::Fixed;
 use saves::read::GotContext;
 
@@ -20,9 +23,9 @@ use saves::read::GotContext;
 fn read_fixed(s: &[u8], p: Place) -> Fixed
     ensures { λ r. ⌜ r ≡ fixedOf (now (s .entry)) p ⌝ }
 {
-    let state = next_up_to(s, p, true, 2);
+    let state = next_up_to(s, p, true, BROKEN);
     let first = state.field;
-    let used = first.value != 0;
+    let used = first.value != EMPTY;
     let generation = next_up_to(s, state.place, used, Link::MAX_GENERATION);
     let sequence = next_up_to(s, generation.place, used, Link::MAX_SEQUENCE);
     let did = next_word(s, sequence.place, used);
@@ -50,14 +53,14 @@ fn read_fixed(s: &[u8], p: Place) -> Fixed
 fn unfilled_allowed(f: Fixed) -> bool
     ensures { λ r. ⌜ r ≡ unfilledAllowed f ⌝ }
 {
-    (f.state == 2) & (f.generation == 0) & (f.sequence == 0) & (f.did == 0) & (f.dts == 0)
+    (f.state == BROKEN) & (f.generation == 0) & (f.sequence == 0) & (f.did == 0) & (f.dts == 0)
 }
 
 fn size_allowed(f: Fixed) -> bool
     ensures { λ r. ⌜ r ≡ sizeAllowed f ⌝ }
 {
     let size = f.size;
-    if f.state == 0 {
+    if f.state == EMPTY {
         return true;
     }
     if size == 0 {
@@ -69,10 +72,10 @@ fn size_allowed(f: Fixed) -> bool
 fn status_of(state: u8) -> Status
     ensures { λ r. ⌜ r ≡ statusOf state ⌝ }
 {
-    if state == 0 {
+    if state == EMPTY {
         return Status::Empty;
     }
-    if state == 1 {
+    if state == LIVE {
         return Status::Live;
     }
     Status::Broken

@@ -22,6 +22,7 @@ use decompressor::answer::Outcome;
 use decompressor::table::Table;
 use decompressor::table::sound;
 use packet::refusal::Refusal;
+use saves::layout::VERSION;
 use settings::Settings;
 
 // How many bytes the records of the first n contexts have.
@@ -44,7 +45,7 @@ fn put_front(out: &mut [u8], at: usize, s: Settings) -> usize
     requires { ⌜ at + 3 ≤ length (now out) ⌝ }
     ensures { λ r. ⌜ Wrote (now (out .entry)) (now (out .exit)) at r (frontBytes s) ⌝ }
 {
-    let at = put8(out, at, 1);
+    let at = put8(out, at, VERSION);
     let at = put8(out, at, s.repeats);
     put8(out, at, s.contexts)
 }

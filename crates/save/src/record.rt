@@ -15,6 +15,9 @@ use decompress::header::rebuild;
 use headers_read::read::header_size;
 use headers_read::read::size_with;
 use headers_write::write::put_header;
+use saves::layout::BROKEN;
+use saves::layout::EMPTY;
+use saves::layout::LIVE;
 
 // How many bytes the record of a context in use has, be it live or broken.
 fn used_size(c: DecompressorContext) -> usize
@@ -75,8 +78,8 @@ pub fn put_record(out: &mut [u8], at: usize, c: DecompressorContext) -> usize
 {
     let status = c.status;
     match status {
-        Status::Empty => { put8(out, at, 0) }
-        Status::Live => { put_used(out, at, 1, c) }
-        Status::Broken => { put_used(out, at, 2, c) }
+        Status::Empty => { put8(out, at, EMPTY) }
+        Status::Live => { put_used(out, at, LIVE, c) }
+        Status::Broken => { put_used(out, at, BROKEN, c) }
     }
 }
