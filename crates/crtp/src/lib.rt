@@ -101,7 +101,7 @@ pub fn report(t: DecompressorTable, out: &mut [u8]) -> DecompressorAnswer
     report::report(t, out)
 }
 
-// How many bytes a saved table has at most: an output as long as this is never too short for a save.
+// How many bytes a saved table has at most (`saves-longest`): an output as long as this is never too short for a save.
 pub const LONGEST_FILE: usize = 7045;
 
 // The decompressor's table as bytes, to be kept over a restart. The table stays as it is.
