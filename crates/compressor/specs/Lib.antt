@@ -10,6 +10,7 @@ pub mod SentLaws
 pub mod CanSend
 pub mod CanSendLaws
 pub mod FullLaws
+pub mod ValuesLaws
 pub mod SoundLaws
 pub mod Request
 pub mod RequestLaws
