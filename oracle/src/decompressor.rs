@@ -224,6 +224,10 @@ fn accept_compressed(
         break_context(mutant, context);
         return Err(Refusal::NotLive);
     }
+    let resets_early = mutant == Mutant::RefusedRtpHeaderResetsDelta;
+    if resets_early && link_type == COMPRESSED_UDP && flags & 0x80 == 0 {
+        context.timestamp_delta = 0;
+    }
     let gap = (flags & 15).wrapping_sub(context.last_link) & 15;
     let gap_allowed = (1..=repeats + 1).contains(&gap);
     if mutant == Mutant::GapBeforeFields && !gap_allowed {
@@ -282,6 +286,8 @@ struct Carried {
     list: Option<List>,
     /// Padding, extension and SSRC, known only from a whole RTP header.
     rtp_constants: Option<(bool, bool, u32)>,
+    /// Whether the kept timestamp difference becomes 0 if none is sent.
+    resets_timestamp_delta: bool,
 }
 
 #[derive(Clone, Copy)]
@@ -387,8 +393,11 @@ fn read_compressed_udp(
         difference: id_difference,
     };
     carried.timestamp.difference = timestamp_difference;
-    if mutant == Mutant::OldFormResetsDelta && second.is_none() && timestamp_difference.is_none() {
-        carried.timestamp.difference = Some(0);
+    match mutant {
+        Mutant::RtpHeaderKeepsDelta => carried.resets_timestamp_delta = false,
+        Mutant::SelectedFieldsResetDelta => carried.resets_timestamp_delta = true,
+        Mutant::RtpHeaderDropsSentDelta if second.is_none() => carried.timestamp.difference = None,
+        _ => {}
     }
     Ok(carried)
 }
@@ -415,7 +424,8 @@ fn read_selected_fields(second: u8, reader: &mut Reader) -> Result<Carried, Refu
     })
 }
 
-/// CU without F: a whole RTP header. Its 12 fixed bytes are one field.
+/// CU without F: a whole RTP header. Its 12 fixed bytes are one field. As a full header does, it starts the
+/// timestamp's steps anew; not the ID's, since it has no IP header.
 fn read_rtp_header(reader: &mut Reader) -> Result<Carried, Refusal> {
     let mut fixed = Reader::new(reader.take(12)?);
     let first = fixed.byte()?;
@@ -440,6 +450,7 @@ fn read_rtp_header(reader: &mut Reader) -> Result<Carried, Refusal> {
         payload: Some(second & 0x7f),
         list: Some(list),
         rtp_constants: Some((first & 0x20 != 0, first & 0x10 != 0, ssrc)),
+        resets_timestamp_delta: true,
         ..Carried::default()
     })
 }
@@ -473,15 +484,19 @@ fn advance(mutant: Mutant, before: &Context, carried: &Carried, gap: u8, link: u
     after.fields.sequence = carried.sequence.whole.unwrap_or(sequence as u16);
     after.fields.timestamp = carried.timestamp.whole.unwrap_or(timestamp);
     let drops = mutant == Mutant::WholeFieldDropsDelta;
-    if let (Some(difference), false) = (carried.id.difference, drops && carried.id.whole.is_some())
-    {
-        after.id_delta = difference as u16;
+    match carried.id.difference {
+        Some(_) if drops && carried.id.whole.is_some() => {}
+        Some(difference) => after.id_delta = difference as u16,
+        None if mutant == Mutant::RtpHeaderResetsIdDelta && carried.rtp_constants.is_some() => {
+            after.id_delta = 1;
+        }
+        None => {}
     }
-    if let (Some(difference), false) = (
-        carried.timestamp.difference,
-        drops && carried.timestamp.whole.is_some(),
-    ) {
-        after.timestamp_delta = difference as u32;
+    match carried.timestamp.difference {
+        Some(_) if drops && carried.timestamp.whole.is_some() => {}
+        Some(difference) => after.timestamp_delta = difference as u32,
+        None if carried.resets_timestamp_delta => after.timestamp_delta = 0,
+        None => {}
     }
     after.marker = carried.marker;
     if let Some(payload) = carried.payload {

@@ -2,10 +2,10 @@
 
 use crate::bytes::{ip_checksum, put16};
 use crate::codes;
-use crate::decompressor::{Status, Table};
+use crate::decompressor::{self, Status, Table};
 use crate::flows;
 use crate::prng::Prng;
-use crate::{COMPRESSED_RTP, COMPRESSED_UDP};
+use crate::{COMPRESSED_RTP, COMPRESSED_UDP, MAX_PACKET};
 
 /// One difference code, rarely an unused one.
 fn code(prng: &mut Prng) -> Vec<u8> {
@@ -126,6 +126,54 @@ fn compressed_udp(prng: &mut Prng, link: u8, checksum: &[u8]) -> Vec<u8> {
     }
     bytes.extend(prng.bytes(4 * usize::from(second & 15)));
     bytes
+}
+
+/// A sent CU or CR as a compressor that knows no F would send it: the whole RTP header of the packet that
+/// the table rebuilds of it, on the same context at the same link sequence, so that what was sent later still
+/// follows it. I, dT and dI are left to chance. None if the table rebuilds nothing.
+pub fn with_rtp_header(
+    prng: &mut Prng,
+    table: &Table,
+    link_type: u32,
+    sent: &[u8],
+) -> Option<Vec<u8>> {
+    if ![COMPRESSED_UDP, COMPRESSED_RTP].contains(&link_type) {
+        return None;
+    }
+    let mut packet = [0; MAX_PACKET];
+    let answer = decompressor::receive(&mut table.clone(), link_type, sent, &mut packet);
+    if answer.number != 0 {
+        return None;
+    }
+    let packet = &packet[..answer.length];
+    let context = &table.places[usize::from(sent[0])];
+    let mut flags = prng.byte() & 0x70;
+    // Only where a timestamp difference is kept can a later one reset it.
+    if context.timestamp_delta == 0 && prng.bit() {
+        flags |= 0x20;
+    }
+    let mut bytes = vec![sent[0], flags | sent[1] & 15];
+    if context.carried {
+        bytes.extend(&packet[26..28]);
+    }
+    for present in [0x10, 0x20] {
+        if flags & present != 0 {
+            bytes.extend(code(prng));
+        }
+    }
+    if flags & 0x40 != 0 {
+        bytes.extend(&packet[4..6]);
+    }
+    let header = bytes.len();
+    bytes.extend(&packet[28..]);
+    match prng.below(40) {
+        0 | 1 => bytes.truncate(prng.between(1, header + 11)),
+        2 => bytes[header] ^= prng.pick(&[0x40, 0x80, 0xc0]),
+        3 => bytes[1] = bytes[1] & 0xf0 | prng.byte() & 15,
+        4 => bytes.resize(prng.between(1470, 1500), 0x55),
+        _ => {}
+    }
+    Some(bytes)
 }
 
 fn list_length(prng: &mut Prng) -> u8 {

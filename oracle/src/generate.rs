@@ -11,7 +11,7 @@ use crate::script::{
     compressor_field, compressor_table_field, decompressor_field, decompressor_table_field,
     push_hex, Field, Runner, COMPRESSOR_FIELDS, DECOMPRESSOR_FIELDS, MOST_BYTES,
 };
-use crate::{compressor, PLACES};
+use crate::{compressor, COMPRESSED_UDP, PLACES};
 use std::collections::VecDeque;
 
 /// N and K that openings refuse.
@@ -39,6 +39,8 @@ struct Stretch {
     /// Longest run of losses on the link, and percent of arrivals that start one.
     longest_loss: usize,
     loss: usize,
+    /// Percent of arrivals whose CU or CR becomes a CU with a whole RTP header.
+    rtp_headers: usize,
     /// Whether tables are written by hand.
     by_hand: bool,
     /// Both ends in step throughout: same settings, nothing forged, never more than N lost in a row
@@ -77,6 +79,7 @@ impl Generator {
                 odd: 50,
                 longest_loss: 0,
                 loss: 0,
+                rtp_headers: 0,
                 by_hand: false,
                 clean: false,
             },
@@ -150,11 +153,13 @@ impl Generator {
             odd: prng.pick(&[3, 8, 15, 30]),
             longest_loss: prng.pick(&[0, repeats, repeats, repeats, repeats + 2, 20]),
             loss: prng.pick(&[5, 15, 30]),
+            rtp_headers: prng.pick(&[0, 10, 20, 30]),
             by_hand: prng.bit(),
             clean: !self.sender_only && prng.chance(1, 3),
         };
         if self.stretch.clean {
             self.stretch.by_hand = false;
+            self.stretch.rtp_headers = 0;
             self.stretch.longest_loss = prng.pick(&[0, repeats, repeats]);
         }
         if self.stretch.by_hand {
@@ -202,9 +207,15 @@ impl Generator {
         if self.prng.below(100) < self.stretch.loss {
             self.lose_some();
         }
-        let Some((link_type, bytes)) = self.in_flight.pop_front() else {
+        let Some((mut link_type, mut bytes)) = self.in_flight.pop_front() else {
             return self.plan_flow_packet();
         };
+        let header = self.rtp_header_instead(link_type, &bytes);
+        // What it leaves in its context may be gone before a packet shows it.
+        let show = header.is_some() && self.prng.chance(1, 8);
+        if let Some(header) = header {
+            (link_type, bytes) = (COMPRESSED_UDP, header);
+        }
         let place = place_of(link_type, &bytes);
         let exact = exact_length(&self.runner.decompressor, link_type, &bytes);
         let mut room = room(&mut self.prng, exact);
@@ -213,7 +224,18 @@ impl Generator {
         }
         self.count(place, room < exact);
         self.push(format!("r {link_type} {} {room}", hex(&bytes)));
+        if show {
+            self.push(format!("dr {}", bytes[0]));
+        }
         self.last_arrival = Some((link_type, bytes));
+    }
+
+    /// Now and then a CU without F takes the place of what was sent.
+    fn rtp_header_instead(&mut self, link_type: u32, sent: &[u8]) -> Option<Vec<u8>> {
+        if self.prng.below(100) >= self.stretch.rtp_headers {
+            return None;
+        }
+        forge::with_rtp_header(&mut self.prng, &self.runner.decompressor, link_type, sent)
     }
 
     fn lose_some(&mut self) {

@@ -30,11 +30,16 @@ pub enum Mutant {
     ReportTopBitClear,
     ChecksumAllOnesRight,
     WholeFieldDropsDelta,
-    OldFormResetsDelta,
     RequestRestartsRun,
     SentDeltaOnAllSteps,
     BrokenForgets,
     PlacesPastContextsIgnored,
+    // Kept differences after a CU that brings a whole RTP header (without F) or selected fields (with F).
+    RtpHeaderKeepsDelta,
+    RtpHeaderDropsSentDelta,
+    RtpHeaderResetsIdDelta,
+    RefusedRtpHeaderResetsDelta,
+    SelectedFieldsResetDelta,
     // Routing and totals of an endpoint.
     ContextStateToDecompressor,
     HighTypesToCompressor,
@@ -68,7 +73,7 @@ pub enum Mutant {
 }
 
 impl Mutant {
-    pub const ALL: [Mutant; 56] = [
+    pub const ALL: [Mutant; 60] = [
         Mutant::RunNotCounted,
         Mutant::JumpAdopted,
         Mutant::SingleStep,
@@ -92,11 +97,15 @@ impl Mutant {
         Mutant::ReportTopBitClear,
         Mutant::ChecksumAllOnesRight,
         Mutant::WholeFieldDropsDelta,
-        Mutant::OldFormResetsDelta,
         Mutant::RequestRestartsRun,
         Mutant::SentDeltaOnAllSteps,
         Mutant::BrokenForgets,
         Mutant::PlacesPastContextsIgnored,
+        Mutant::RtpHeaderKeepsDelta,
+        Mutant::RtpHeaderDropsSentDelta,
+        Mutant::RtpHeaderResetsIdDelta,
+        Mutant::RefusedRtpHeaderResetsDelta,
+        Mutant::SelectedFieldsResetDelta,
         Mutant::ContextStateToDecompressor,
         Mutant::HighTypesToCompressor,
         Mutant::JudgesBothTables,

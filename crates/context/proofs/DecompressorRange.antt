@@ -18,6 +18,7 @@ use Rattle.context.specs.declared.kept.Link.{Link}
 use Rattle.context.specs.declared.decompressor.DecompressorContext.{DecompressorContext}
 use Rattle.context.proofs.Tests.{cond-both}
 use Rattle.context.proofs.FieldLaws.{movedOn-fits}
+use Rattle.context.proofs.WholeLaws.{whole-delta}
 
 ---- emptyDecompressor, filled
 
@@ -87,7 +88,7 @@ module _ {carried : Bool} (g q : ℕ) (c : DecompressorContext) (p : Parts) (f :
   }
 
   range-whole : (w : RtpHeader) → HeaderFits w → ContextInRange (advancedWhole g q c p w)
-  unfolding advancedWhole
+  unfolding advancedWhole deltasHeld
   range-whole w t = record {
     flow = record {
       source = r .flow .source;
@@ -100,7 +101,11 @@ module _ {carried : Bool} (g q : ℕ) (c : DecompressorContext) (p : Parts) (f :
     rtp = record { payload = t .payload; sequence = t .sequence; timestamp = t .timestamp };
     csrc = t .list;
     did = range-did;
-    dts = range-dts;
+    dts = omega (
+      arith,
+      whole-delta g q c p w,
+      cond-both (λ (x : ℕ). x < 2 ^ 32) (p .dts .sent) (p .dts .value) 0 (f .dts .fits) (omega arith),
+    );
   }
 
 ---- applied, appliedWhole

@@ -22,6 +22,7 @@ use Rattle.context.specs.declared.decompressor.Status.{Status}
 use Rattle.context.specs.declared.decompressor.Status.the-variants.{Empty, Live, Broken}
 use Rattle.context.specs.declared.decompressor.DecompressorContext.{DecompressorContext}
 use Rattle.context.proofs.Tests.{cond-both}
+use Rattle.context.proofs.WholeLaws.{whole-delta}
 use Rattle.context.proofs.SoundFacts.{hasCode-zero, soundList-made, soundLink-bounds}
 use Rattle.context.proofs.SoundFacts.{FilledBounds, filledSound-bounds, bounds-filledSound}
 
@@ -78,14 +79,15 @@ sound-advanced g q c p small a u s =
 
 pub sound-whole : (g q : ℕ) (c : DecompressorContext) (p : Parts) (w : RtpHeader) → q ≤ 15 → PartsSound p → HeaderSound w
     → c .status ≡ Live → soundDecompressor c ≡ true → soundDecompressor (advancedWhole g q c p w) ≡ true
-unfolding advancedWhole ipAfter deltasHeld
+unfolding advancedWhole ipAfter
 sound-whole g q c p w small a t u s =
     let b = soundDecompressor-bounds c u s in
     bounds-soundDecompressor (advancedWhole g q c p w) u (live-filled c u s .0) (record {
       flags = b .flags;
       payload = omega (arith, t .payload);
       list = soundList-made (w .csrc) (t .list);
-      coded = cond-both (λ (x : ℕ). hasCode 32 x ≡ true) (p .dts .sent) _ _ (a .coded) (b .coded);
+      coded = ap (hasCode 32) (whole-delta g q c p w)
+          ∙ cond-both (λ (x : ℕ). hasCode 32 x ≡ true) (p .dts .sent) _ _ (a .coded) hasCode-zero;
       link = record { sequence = small; generation = b .link .generation };
     })
 

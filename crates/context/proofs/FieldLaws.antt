@@ -1,11 +1,11 @@
 -- Iarwennol. Laws of one changing field.
 -- Each once over the width w. Assume nothing.
 -- Used for ID, sequence and timestamp where a packet is lost and where it arrives, and by the loops that make the steps.
-use Prim.Native.Nat.{ℕ, suc, _+_, _-_, _^_, _≤_, _<_}
+use Prim.Native.Nat.{ℕ, zero, suc, _+_, _-_, _^_, _≤_, _<_}
 use mathlib.Core.Path.{_≡_, refl, sym, ap, _∙_}
 use mathlib.Core.Bool.{Bool, true, false, cond, false≢true}
 use native.Mathlib.Omega.{arith}
-use native.Mathlib.Nat.{mod-lt}
+use native.Mathlib.Nat.{add-zero, mod-lt, mod-eq-of-lt}
 use native.Mathlib.Numerals.{add-one}
 use lib.Dec.{eqb}
 use lib.Pow.{pow-pos}
@@ -125,3 +125,18 @@ module _ (w n j : ℕ) (v : Seen) (t : Track) (x : ℕ) (small : t .last < 2 ^ w
 -- with nothing lost
 pub near-now : (w n : ℕ) (v : Seen) (t : Track) → v .last ≡ t .last → v .delta ≡ t .delta → Near w n 0 v t
 near-now w n v t a b = record { delta = λ k. b; value = λ k. (b, sym a) }
+
+---- A delta of 0
+
+sum-still : (w a : ℕ) → a < 2 ^ w → sum w a 0 ≡ a
+unfolding sum
+sum-still w a h = rw add-zero (mod-eq-of-lt h)
+
+steps-still : (w a g : ℕ) → a < 2 ^ w → steps w a 0 g ≡ a
+steps-still w a zero h = refl
+steps-still w a (suc g) h = rw (steps-still w a g h) (sum-still w a h)
+
+-- a field of which nothing came stays where it was, over any gap
+pub movedOn-still : (w g last d x : ℕ) → last < 2 ^ w → movedOn w g last 0 false d false x ≡ last
+unfolding movedOn
+movedOn-still w g last d x h = rw (steps-still w last (g - 1) h) (sum-still w last h)

@@ -3,6 +3,7 @@ pub mod Arrays
 pub mod Relation
 pub mod Tests
 pub mod FieldLaws
+pub mod WholeLaws
 pub mod Gap
 pub mod Begun
 pub mod Lost

@@ -78,6 +78,10 @@ deltasHeld kept p = record {
   timestamp = cond (p .dts .sent) (p .dts .value) (kept .timestamp);
 }
 
+-- rule 7.7: the delta of the timestamp forgotten
+abbrev pub withoutTimestamp : Deltas → Deltas
+withoutTimestamp kept = record { id = kept .id; timestamp = 0 }
+
 -- rules 7.3 to 7.6, 6.4, 6.5: a CR, or a CU with F
 unfoldable pub advanced : (g q : ℕ) → DecompressorContext → Parts → DecompressorContext
 advanced g q c p = record {
@@ -110,7 +114,7 @@ advancedWhole g q c p w = record {
   csrc = w .csrc;
   carried = c .carried;
   marker = w .marker;
-  deltas = deltasHeld (c .deltas) p;
+  deltas = deltasHeld (withoutTimestamp (c .deltas)) p;
   link = record { sequence = q; generation = c .link .generation };
 }
 

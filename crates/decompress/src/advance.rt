@@ -81,7 +81,7 @@ pub fn advance(g: u8, q: u8, c: DecompressorContext, p: Parts) -> DecompressorCo
     d
 }
 
-// The context after a CU without F: the RTP header is taken whole.
+// The context after a CU without F: the RTP header is taken whole, and the delta of the timestamp is the one sent, or 0.
 pub fn advance_whole(
     g: u8,
     q: u8,
@@ -92,7 +92,8 @@ pub fn advance_whole(
     requires { ⌜ 1 ≤ g ⌝ }
     ensures { λ r. ⌜ r ≡ advancedWhole g q c p w ⌝ }
 {
-    let kept = c.deltas;
+    let mut kept = c.deltas;
+    kept.timestamp = 0;
     let rtp = w.rtp;
     let csrc = w.csrc;
     let ip = move_ip(g, c, p);

@@ -25,6 +25,10 @@ checks!(
     sent_difference_is_the_last_step,
     wide_codes_reduce,
     compressed_udp_with_a_whole_header,
+    rtp_header_resets_the_timestamp_delta,
+    rtp_header_with_a_sent_delta,
+    selected_fields_keep_the_timestamp_delta,
+    rtp_header_leaves_the_id_delta,
     carried_zero_checksum,
     lists_replaced_and_kept,
     full_header_from_any_state,
@@ -439,7 +443,7 @@ pub fn wide_codes_reduce(mutant: Mutant) -> Outcome {
     ends.rebuilds(3, &hex("00 05 da7a"), &voice(113, 14, 0xffff_8000))
 }
 
-/// CU without F: every RTP field is taken into the context; the kept timestamp difference stands.
+/// CU without F: every RTP field is taken into the context.
 pub fn compressed_udp_with_a_whole_header(mutant: Mutant) -> Outcome {
     let mut ends = Ends::open(mutant, 2, 1);
     let mut start = voice(100, 10, 1000);
@@ -463,10 +467,9 @@ pub fn compressed_udp_with_a_whole_header(mutant: Mutant) -> Outcome {
     packet.csrc = vec![0xdead_beef];
     let bytes = hex("00 52 0102 04 0300 b1 85 4000 05000000 99aabbcc deadbeef da7a");
     ends.rebuilds(2, &bytes, &packet)?;
-    // CR after a gap of 2: ID by 8, timestamp by 20, the rest as taken; M of its own.
+    // CR after a gap of 2: ID by 8, timestamp by nothing, the rest as taken; M of its own.
     packet.id = 0x308;
     packet.sequence = 0x4002;
-    packet.timestamp = 0x0500_0014;
     packet.marker = false;
     packet.udp_checksum = 0xffff;
     ends.rebuilds(3, &hex("00 04 ffff da7a"), &packet)?;
@@ -482,6 +485,131 @@ pub fn compressed_udp_with_a_whole_header(mutant: Mutant) -> Outcome {
     packet.sequence = 2;
     packet.timestamp = 9;
     ends.rebuilds(3, &hex("00 06 ffff da7a"), &packet)
+}
+
+/// CU without F and without dT: the 160 kept before is gone, and the timestamp stands still until another
+/// difference is sent.
+pub fn rtp_header_resets_the_timestamp_delta(mutant: Mutant) -> Outcome {
+    let mut reset = Ends::with_timestamp_delta(mutant)?;
+    let bytes = hex("00 02 80 00 000c 00002000 11223344 da7a");
+    reset.rebuilds(2, &bytes, &voice(102, 12, 0x2000))?;
+    same("kept", reset.decompressor.places[0].timestamp_delta, 0)?;
+    // Right after it: CR at once and over a gap of 3, with I of 5 both times too; CU with F and no more.
+    for (link_type, bytes, packet) in [
+        (3, "00 03 da7a", voice(103, 13, 0x2000)),
+        (3, "00 05 da7a", voice(105, 15, 0x2000)),
+        (3, "00 13 05 da7a", voice(107, 13, 0x2000)),
+        (3, "00 15 05 da7a", voice(109, 15, 0x2000)),
+        (2, "00 83 00 da7a", voice(103, 13, 0x2000)),
+        (2, "00 85 00 da7a", voice(105, 15, 0x2000)),
+        // With T of 10 over a gap of 3: two steps of 0, then one of 10.
+        (3, "00 25 0a da7a", voice(105, 15, 0x200a)),
+        (2, "00 a5 00 0a da7a", voice(105, 15, 0x200a)),
+    ] {
+        reset.clone().rebuilds(link_type, &hex(bytes), &packet)?;
+    }
+    // One after the other, and a second whole header where the difference is 0 already.
+    let mut ends = reset;
+    ends.rebuilds(3, &hex("00 03 da7a"), &voice(103, 13, 0x2000))?;
+    ends.rebuilds(3, &hex("00 06 da7a"), &voice(106, 16, 0x2000))?;
+    ends.rebuilds(3, &hex("00 17 05 da7a"), &voice(111, 17, 0x2000))?;
+    let bytes = hex("00 08 80 00 0030 00003000 11223344 da7a");
+    ends.rebuilds(2, &bytes, &voice(116, 0x30, 0x3000))?;
+    ends.rebuilds(3, &hex("00 09 da7a"), &voice(121, 0x31, 0x3000))?;
+    ends.rebuilds(3, &hex("00 2a 0a da7a"), &voice(126, 0x32, 0x300a))?;
+    ends.rebuilds(3, &hex("00 0b da7a"), &voice(131, 0x33, 0x3014))?;
+    // Two packets lost before the whole header: its timestamp is taken all the same.
+    let mut ends = Ends::with_timestamp_delta(mutant)?;
+    let bytes = hex("00 04 80 00 000e 00002000 11223344 da7a");
+    ends.rebuilds(2, &bytes, &voice(104, 14, 0x2000))?;
+    ends.rebuilds(3, &hex("00 05 da7a"), &voice(105, 15, 0x2000))
+}
+
+/// CU without F and with dT, at once and over a gap of 3: the timestamp is the header's, and from there it
+/// goes on by the difference sent, whatever that is.
+pub fn rtp_header_with_a_sent_delta(mutant: Mutant) -> Outcome {
+    for (code, delta) in [
+        ("80f0", 240),
+        ("c03f60", -160),
+        ("807f", -1),
+        ("00", 0),
+        ("80a0", 160),
+        ("ffffff", 4_194_303),
+        ("c00000", -16384),
+    ] {
+        for gap in [1, 3] {
+            let mut ends = Ends::with_timestamp_delta(mutant)?;
+            let link = 1 + gap;
+            let header = hex("80 00 0040 00002000 11223344 da7a");
+            let bytes = [vec![0, 0x20 + link], hex(code), header].concat();
+            let mut packet = voice(101 + u16::from(gap), 0x40, 0x2000);
+            ends.rebuilds(2, &bytes, &packet)?;
+            packet = packet.next();
+            packet.timestamp = packet.timestamp.wrapping_add_signed(delta);
+            ends.rebuilds(3, &[0, link + 1, 0xda, 0x7a], &packet)?;
+            packet = packet.next().next();
+            packet.timestamp = packet.timestamp.wrapping_add_signed(2 * delta);
+            ends.rebuilds(3, &[0, link + 3, 0xda, 0x7a], &packet)?;
+        }
+    }
+    Ok(())
+}
+
+/// CU with F and without dT: 160 stays, with T whole and without T.
+pub fn selected_fields_keep_the_timestamp_delta(mutant: Mutant) -> Outcome {
+    let ready = Ends::with_timestamp_delta(mutant)?;
+    for (bytes, packet, next) in [
+        // T; T over a gap of 3.
+        ("00 82 20 00002000 da7a", voice(102, 12, 0x2000), 0x20a0),
+        ("00 84 20 00002000 da7a", voice(104, 14, 0x2000), 0x20a0),
+        // Nothing; nothing over a gap of 3; S; I and dI of 1.
+        ("00 82 00 da7a", voice(102, 12, 1320), 1480),
+        ("00 84 00 da7a", voice(104, 14, 1640), 1800),
+        ("00 82 40 0040 da7a", voice(102, 0x40, 1320), 1480),
+        ("00 d2 00 01 0200 da7a", voice(0x200, 12, 1320), 1480),
+    ] {
+        let mut ends = ready.clone();
+        let bytes = hex(bytes);
+        ends.rebuilds(2, &bytes, &packet)?;
+        let next = Voice {
+            timestamp: next,
+            ..packet.next()
+        };
+        let link = bytes[1] % 16 + 1;
+        ends.rebuilds(3, &[0, link, 0xda, 0x7a], &next)?;
+    }
+    Ok(())
+}
+
+/// CU without F and the kept difference of the ID, here 5: it stays unless dI brings another, with I and
+/// without.
+pub fn rtp_header_leaves_the_id_delta(mutant: Mutant) -> Outcome {
+    let mut ready = Ends::open(mutant, 2, 1);
+    ready.fill(&voice(100, 10, 1000), 0, 0, 0)?;
+    ready.rebuilds(2, &hex("00 b1 00 05 80a0 da7a"), &voice(105, 11, 1160))?;
+    for (front, id, next) in [
+        // Neither; neither over a gap of 3; dT of 0 alone.
+        ("00 02", 110, 115),
+        ("00 04", 120, 125),
+        ("00 22 00", 110, 115),
+        // I; I over a gap of 3.
+        ("00 42 1234", 0x1234, 0x1239),
+        ("00 44 1234", 0x1234, 0x1239),
+        // dI of 7; over a gap of 3 two steps of 5 and one of 7; dI of -1.
+        ("00 12 07", 112, 119),
+        ("00 14 07", 122, 129),
+        ("00 12 807f", 104, 103),
+        // I and dI of 7.
+        ("00 52 07 1234", 0x1234, 0x123b),
+    ] {
+        let mut ends = ready.clone();
+        let header = hex("80 00 0040 00002000 11223344 da7a");
+        let bytes = [hex(front), header].concat();
+        ends.rebuilds(2, &bytes, &voice(id, 0x40, 0x2000))?;
+        let link = bytes[1] % 16 + 1;
+        ends.rebuilds(3, &[0, link, 0xda, 0x7a], &voice(next, 0x41, 0x2000))?;
+    }
+    Ok(())
 }
 
 /// A 0000 in a context that carries checksums is rebuilt as it came and changes nothing.

@@ -13,5 +13,6 @@ mod published;
 mod refusals;
 mod saved;
 mod scripts;
+mod scripts_of_rtp_headers;
 mod scripts_of_saves;
 mod soundness;

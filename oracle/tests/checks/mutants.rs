@@ -45,7 +45,7 @@ fn every_mutant_is_caught() {
         caught += 1;
     }
     println!("mutants: {caught} of {} caught", Mutant::ALL.len());
-    assert_eq!(caught, 56);
+    assert_eq!(caught, 60);
 }
 
 #[test]

@@ -20,6 +20,7 @@ checks!(
     gap_length_room_order,
     every_gap,
     rooms_exact_and_short,
+    refused_rtp_headers_leave_the_delta,
 );
 
 // The compressor
@@ -628,6 +629,59 @@ pub fn rooms_exact_and_short(mutant: Mutant) -> Outcome {
         for room in [exact, exact + 1, 4096] {
             let found = ready(mutant)?.receive(link_type, &bytes, room)?;
             same("enough", (found.number, found.bytes.len()), (0, exact))?;
+        }
+    }
+    Ok(())
+}
+
+/// CU without F where a timestamp difference of 160 is kept: a refused one leaves the 160, also if its dT
+/// would have brought another.
+pub fn refused_rtp_headers_leave_the_delta(mutant: Mutant) -> Outcome {
+    let ready = Ends::with_timestamp_delta(mutant)?;
+    let header = "80 00 000c 00002000 11223344";
+    let long = "ee".repeat(1461);
+    let rows: [(&str, String, usize, u8); 14] = [
+        ("nothing more", "00 02".to_string(), 1500, 4),
+        ("dT cut", "00 22 80".to_string(), 1500, 4),
+        ("ID cut", "00 42 12".to_string(), 1500, 4),
+        ("11 bytes", format!("00 02 {}", &header[..26]), 1500, 4),
+        (
+            "list cut",
+            format!("00 02 81 {} 000000", &header[3..]),
+            1500,
+            4,
+        ),
+        ("version", format!("00 02 40 {}", &header[3..]), 1500, 5),
+        (
+            "version, dT",
+            format!("00 22 07 c0 {}", &header[3..]),
+            1500,
+            5,
+        ),
+        ("dT unused", format!("00 22 c03f80 {header}"), 1500, 7),
+        ("gap 0", format!("00 01 {header} da7a"), 1500, 9),
+        ("gap 4", format!("00 05 {header} da7a"), 1500, 9),
+        ("gap 4, dT", format!("00 25 07 {header} da7a"), 1500, 9),
+        ("too long", format!("00 02 {header} {long}"), 1500, 10),
+        ("no room", format!("00 02 {header} da7a"), 41, 11),
+        ("no room, dT", format!("00 22 07 {header} da7a"), 0, 11),
+    ];
+    for (what, bytes, room, number) in rows {
+        let mut ends = ready.clone();
+        let mut wanted = ends.decompressor.clone();
+        if number == 9 {
+            wanted.places[0].status = Status::Broken;
+        }
+        same(what, ends.receive(2, &hex(&bytes), room)?.number, number)?;
+        ensure(
+            &format!("{what}: wrong table afterwards"),
+            ends.decompressor == wanted,
+        )?;
+        if number == 9 {
+            same(what, ends.receive(3, &hex("00 02"), 1500)?.number, 8)?;
+        } else {
+            ends.rebuilds(3, &hex("00 02 da7a"), &voice(102, 12, 1320))
+                .map_err(|found| format!("{what}: {found}"))?;
         }
     }
     Ok(())

@@ -14,6 +14,7 @@ checks!(
     a_live_context,
     marker_and_checksum,
     kept_differences,
+    differences_after_an_rtp_header,
     contexts_of_every_kind,
     every_list_length,
     the_longest_file,
@@ -171,6 +172,36 @@ pub fn kept_differences(mutant: Mutant) -> Outcome {
                   81 e0 000b 000000fd 11223344 a1a2a3a4";
     let file = [hex("0039 01 01 01  01 3f 02 0005 ffffffff 2c"), hex(header)].concat();
     saves("after CR", &ends, &file)
+}
+
+/// CU without F: saved with a timestamp difference of 0, or the one that dT brought, and so loaded.
+pub fn differences_after_an_rtp_header(mutant: Mutant) -> Outcome {
+    for (front, saved, delta) in [
+        ("00 02", "00000000", 0),
+        ("00 22 80f0", "000000f0", 240),
+        ("00 22 c03f60", "ffffff60", -160),
+    ] {
+        let mut ends = Ends::with_timestamp_delta(mutant)?;
+        let bytes = [hex(front), hex("80 00 0040 00002000 11223344 da7a")].concat();
+        ends.rebuilds(2, &bytes, &voice(102, 0x40, 0x2000))?;
+        // 3 bytes, 10 and 40: 35 hex.
+        let file = [
+            hex("0035 01 02 01  01 00 02 0001"),
+            hex(saved),
+            hex("28 45 00 0000 0066 4000 40 11 0000 0a000001 0a000002 138c 138e 0000 0000"),
+            hex("80 00 0040 00002000 11223344"),
+        ]
+        .concat();
+        saves("after a whole RTP header", &ends, &file)?;
+        let before = ends.decompressor.clone();
+        ends.fill(&packet(), 0, 5, 9)?;
+        same("load", ends.load(&file)?, 0)?;
+        ensure("same table", ends.decompressor == before)?;
+        // Over a gap of 3.
+        let wanted = voice(105, 0x43, 0x2000_u32.wrapping_add_signed(3 * delta));
+        ends.rebuilds(3, &hex("00 05 da7a"), &wanted)?;
+    }
+    Ok(())
 }
 
 /// Live, empty, broken before it was filled, broken afterwards, empty: 3, 50, 1, 10, 50 and 1 bytes, 73 hex.

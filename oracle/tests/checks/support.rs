@@ -196,6 +196,16 @@ impl Ends {
         same("rebuilt packet", found, wanted)
     }
 
+    /// N 2, K 1. After FH and a CU with F and dT, link sequence 1: voice(101, 11, 1160), the kept timestamp
+    /// difference is 160.
+    pub fn with_timestamp_delta(mutant: Mutant) -> Result<Self, String> {
+        let mut ends = Ends::open(mutant, 2, 1);
+        ends.fill(&voice(100, 10, 1000), 0, 0, 0)?;
+        ends.rebuilds(2, &hex("00 a1 00 80a0 da7a"), &voice(101, 11, 1160))?;
+        same("kept", ends.decompressor.places[0].timestamp_delta, 160)?;
+        Ok(ends)
+    }
+
     /// Receives an FH of the packet at the place, generation and link sequence given.
     pub fn fill(&mut self, packet: &Voice, place: u8, generation: u8, link: u8) -> Outcome {
         self.rebuilds(1, &packet.full_header(place, generation, link), packet)
