@@ -18,6 +18,7 @@ pub mod prng;
 pub mod refusal;
 pub mod saved;
 pub mod script;
+pub mod udp_checksum;
 mod way;
 
 /// Link types as numbers beside the bytes.
