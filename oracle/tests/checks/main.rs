@@ -16,3 +16,4 @@ mod scripts;
 mod scripts_of_rtp_headers;
 mod scripts_of_saves;
 mod soundness;
+mod udp_checksums;

@@ -133,8 +133,8 @@ pub fn marker_and_checksum(mutant: Mutant) -> Outcome {
     saves("other bits", &ends, &file)
 }
 
-/// CU with F that sends the differences 5 and -1, two packets on; after it CR, two packets on. The marker
-/// is that of the last packet, and that a checksum is carried stays from the FH, though 0000 came.
+/// CU with F that sends the differences 5 and -1; after it CR, two packets on. The marker is that of the last packet, and
+/// that a checksum is carried stays from the FH, though 0000 came.
 pub fn kept_differences(mutant: Mutant) -> Outcome {
     let mut ends = Ends::open(mutant, 1, 1);
     let first = Voice {
@@ -143,34 +143,36 @@ pub fn kept_differences(mutant: Mutant) -> Outcome {
         ..packet()
     };
     ends.fill(&first, 0, 63, 14)?;
-    // ID 1234 and 1 and 5, sequence two higher, timestamp 100 and 0 and -1.
+    // ID 1234 and 5, sequence one higher, timestamp 100 and -1.
     let second = Voice {
         marker: false,
-        id: 0x123a,
-        sequence: 9,
+        id: 0x1239,
+        sequence: 8,
         timestamp: 0xff,
         udp_checksum: 0,
         ..packet()
     };
-    ends.rebuilds(2, &hex("00 b0 00 0000 05 807f da7a"), &second)?;
-    let header = "45 b8 0000 123a 4000 40 11 0000 0a000001 0a000002 138c 138e 0000 ffff
-                  80 60 0009 000000ff 11223344";
-    let file = [hex("0035 01 01 01  01 3f 00 0005 ffffffff 28"), hex(header)].concat();
+    ends.rebuilds(2, &hex("00 bf 00 0000 05 807f da7a"), &second)?;
+    let header = "45 b8 0000 1239 4000 40 11 0000 0a000001 0a000002 138c 138e 0000 ffff
+                  80 60 0008 000000ff 11223344";
+    let file = [hex("0035 01 01 01  01 3f 0f 0005 ffffffff 28"), hex(header)].concat();
     saves("after CU", &ends, &file)?;
-    // A second flag byte brings a list of one word: 10 and 44 bytes.
+    // A second flag byte brings a list of one word: 10 and 44 bytes. Over a gap the checksum must be right: addresses,
+    // protocol, ports and twice the length 1a are 3b62, and 3b62+81e0+000a+00fd+1122+3344+a1a2+a3a4+da7a = 3226f,
+    // folded 2272.
     let third = Voice {
         marker: true,
-        id: 0x1244,
-        sequence: 11,
+        id: 0x1243,
+        sequence: 10,
         timestamp: 0xfd,
-        udp_checksum: 0x5555,
+        udp_checksum: 0xdd8d,
         csrc: vec![0xa1a2_a3a4],
         ..packet()
     };
-    ends.rebuilds(3, &hex("00 f2 5555 81 a1a2a3a4 da7a"), &third)?;
-    let header = "45 b8 0000 1244 4000 40 11 0000 0a000001 0a000002 138c 138e 0000 ffff
-                  81 e0 000b 000000fd 11223344 a1a2a3a4";
-    let file = [hex("0039 01 01 01  01 3f 02 0005 ffffffff 2c"), hex(header)].concat();
+    ends.rebuilds(3, &hex("00 f1 dd8d 81 a1a2a3a4 da7a"), &third)?;
+    let header = "45 b8 0000 1243 4000 40 11 0000 0a000001 0a000002 138c 138e 0000 ffff
+                  81 e0 000a 000000fd 11223344 a1a2a3a4";
+    let file = [hex("0039 01 01 01  01 3f 01 0005 ffffffff 2c"), hex(header)].concat();
     saves("after CR", &ends, &file)
 }
 
