@@ -76,6 +76,17 @@ fn lists_catch_faults_of_rebuilding() {
         Mutant::FullHeaderKeepsDeltas,
         Mutant::RefusedSendUsesLink,
         Mutant::WholeFieldDropsDelta,
+        Mutant::ChecksumJudgedWithoutGap,
+        Mutant::ChecksumJudgedInFullHeader,
+        Mutant::ChecksumJudgedWhereBlank,
+        Mutant::SumWithoutAddresses,
+        Mutant::SumWithoutProtocol,
+        Mutant::SumWithoutLength,
+        Mutant::SumsCarriedChecksum,
+        Mutant::SumsFixedHeadersOnly,
+        Mutant::OddByteDropped,
+        Mutant::OddByteLow,
+        Mutant::SumZeroStaysZero,
     ] {
         assert!(
             lists::some_lists(mutant).is_err(),
