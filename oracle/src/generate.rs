@@ -32,8 +32,9 @@ pub(crate) const LINK_TYPES: [u32; 12] = [0, 1, 2, 3, 4, 5, 6, 255, 256, 65536, 
 /// How one stretch of calls between two openings behaves.
 struct Stretch {
     calls_left: usize,
-    /// Percent of packets with a change.
+    /// Percent of packets with a change, and of UDP checksums that are wrong.
     change: usize,
+    wrong: usize,
     /// Percent of calls that are hostile or odd.
     odd: usize,
     /// Longest run of losses on the link, and percent of arrivals that start one.
@@ -44,7 +45,7 @@ struct Stretch {
     /// Whether tables are written by hand.
     by_hand: bool,
     /// Both ends in step throughout: same settings, nothing forged, never more than N lost in a row
-    /// on a context.
+    /// on a context, nor any where checksums are wrong.
     clean: bool,
 }
 
@@ -76,6 +77,7 @@ impl Generator {
             stretch: Stretch {
                 calls_left: 12,
                 change: 10,
+                wrong: 10,
                 odd: 50,
                 longest_loss: 0,
                 loss: 0,
@@ -150,6 +152,7 @@ impl Generator {
         self.stretch = Stretch {
             calls_left: prng.between(longest / 2, longest),
             change: prng.pick(&[1, 2, 4, 10, 30]),
+            wrong: prng.pick(&[0, 3, 10, 25]),
             odd: prng.pick(&[3, 8, 15, 30]),
             longest_loss: prng.pick(&[0, repeats, repeats, repeats, repeats + 2, 20]),
             loss: prng.pick(&[5, 15, 30]),
@@ -161,6 +164,9 @@ impl Generator {
             self.stretch.by_hand = false;
             self.stretch.rtp_headers = 0;
             self.stretch.longest_loss = prng.pick(&[0, repeats, repeats]);
+            if self.stretch.longest_loss > 0 {
+                self.stretch.wrong = 0;
+            }
         }
         if self.stretch.by_hand {
             self.stretch.odd = self.stretch.odd.max(15);
@@ -185,9 +191,9 @@ impl Generator {
 
     fn plan_flow_packet(&mut self) {
         let which = self.prng.below(self.flows.len());
-        let header = self.flows[which].next(&mut self.prng, self.stretch.change);
-        let payload = flows::payload(&mut self.prng, &header);
-        self.plan_send(&flows::packet(&header, &payload));
+        let Stretch { change, wrong, .. } = self.stretch;
+        let packet = self.flows[which].next_packet(&mut self.prng, change, wrong);
+        self.plan_send(&packet);
     }
 
     /// Tries the send on a copy to know its exact length, and remembers what it gives out.
@@ -255,8 +261,9 @@ impl Generator {
     /// In clean stretches one of N+1 neighbours on a context must get through.
     fn may_lose(&self, place: Option<u8>) -> bool {
         let repeats = usize::from(self.runner.compressor.repeats);
-        !self.stretch.clean
-            || place.is_none_or(|place| self.lost_in_a_row[usize::from(place)] < repeats)
+        let few =
+            |place: u8| self.stretch.wrong == 0 && self.lost_in_a_row[usize::from(place)] < repeats;
+        !self.stretch.clean || place.is_none_or(few)
     }
 
     fn count(&mut self, place: Option<u8>, lost: bool) {

@@ -2,11 +2,13 @@
 //! went in (change request 5).
 
 use crate::bytes::get16;
+use crate::header::FIXED;
 use crate::mutant::Mutant;
 
-/// Where the IP header ends, and the checksum's place in the headers.
+/// Where the IP header ends.
 const IP: usize = 20;
-const CHECKSUM: usize = IP + 6;
+/// Where the checksum stands in a packet.
+pub const CHECKSUM: usize = IP + 6;
 
 /// The checksum that a packet must carry, given as its headers (IP to the CSRC list) and what follows them: a
 /// pseudo-header, the UDP header without its checksum and all data are summed, and the folded sum is inverted. 0000
@@ -32,6 +34,11 @@ pub fn of_packet(mutant: Mutant, headers: &[u8], rest: &[u8]) -> u16 {
         return 0xffff;
     }
     checksum
+}
+
+/// The same for a packet of at least 40 bytes in one piece.
+pub fn of_whole(packet: &[u8]) -> u16 {
+    of_packet(Mutant::None, &packet[..FIXED], &packet[FIXED..])
 }
 
 /// Whether the checksum that a packet carries is the one above; 0000 never is.

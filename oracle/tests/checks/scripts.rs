@@ -1,6 +1,6 @@
 //! The text form of calls, and generated scripts: answers are well formed and agree with each other.
 
-use crate::support::hex;
+use crate::support::{hex, udp_checksum_wrong};
 use oracle::decompressor;
 use oracle::generate::Generator;
 use oracle::generate_endpoint;
@@ -460,6 +460,8 @@ struct Watch {
     in_flight: VecDeque<(String, String, String)>,
     lost_in_a_row: HashMap<u8, usize>,
     rebuilt: usize,
+    /// Watched arrivals with a checksum: without and after a loss, by right and wrong.
+    by_checksum: [[usize; 2]; 2],
     numbers: HashMap<String, usize>,
 }
 
@@ -479,7 +481,7 @@ impl Watch {
                 "s" => &[0, 1, 2, 11],
                 "q" => &[0, 1, 4, 5, 6],
                 "p" => &[0, 1, 11],
-                _ => &[0, 1, 2, 3, 4, 5, 6, 7, 8, 9, 10, 11],
+                _ => &[0, 1, 2, 3, 4, 5, 6, 7, 8, 9, 10, 11, 12],
             };
             assert!(allowed.contains(&number), "{line}: {answer}");
             *self.numbers.entry(format!("{call} {number}")).or_insert(0) += 1;
@@ -553,6 +555,9 @@ impl Watch {
         }
         let (link_type, bytes, packet) = self.in_flight.pop_front().expect("found above");
         let room: usize = words[3].parse().expect("a room");
+        if let Some(place) = place(&link_type, &bytes) {
+            self.see_checksum(place, &hex(&packet));
+        }
         if 2 * room < packet.len() {
             self.count_loss(&link_type, &bytes, repeats);
         } else if let Some(place) = place(&link_type, &bytes) {
@@ -567,6 +572,16 @@ impl Watch {
             let length = (packet.len() / 2).to_string();
             assert_eq!(parts, ["0", &length, &packet], "arrival {words:?}");
             self.rebuilt += 1;
+        }
+    }
+
+    /// After a loss only a right checksum or none may come, with room or without.
+    fn see_checksum(&mut self, place: u8, packet: &[u8]) {
+        let guessed = self.lost_in_a_row.get(&place).is_some_and(|&lost| lost > 0);
+        if guessed && udp_checksum_wrong(packet) {
+            self.repeats = None;
+        } else if self.repeats.is_some() && packet[26..28] != [0, 0] {
+            self.by_checksum[usize::from(guessed)][usize::from(udp_checksum_wrong(packet))] += 1;
         }
     }
 
@@ -592,7 +607,7 @@ fn place(link_type: &str, bytes: &str) -> Option<u8> {
 
 #[test]
 fn generated_scripts_agree_with_themselves() {
-    let mut rebuilt = 0;
+    let (mut rebuilt, mut near_right, mut near_wrong, mut guessed) = (0, 0, 0, 0);
     let mut calls = 0;
     let mut numbers: HashMap<String, usize> = HashMap::new();
     for seed in 0..12 {
@@ -606,12 +621,19 @@ fn generated_scripts_agree_with_themselves() {
             calls += 1;
         }
         rebuilt += watch.rebuilt;
+        near_right += watch.by_checksum[0][0];
+        near_wrong += watch.by_checksum[0][1];
+        guessed += watch.by_checksum[1][0];
         for (number, count) in watch.numbers {
             *numbers.entry(number).or_insert(0) += count;
         }
     }
-    println!("generated calls: {calls}, rebuilt under watch: {rebuilt}");
+    println!(
+        "generated calls: {calls}, rebuilt under watch: {rebuilt}; with a checksum and no loss before {near_right} right, \
+         {near_wrong} wrong, after a loss {guessed} right"
+    );
     assert!(rebuilt > 20_000, "only {rebuilt} arrivals were watched");
+    assert!(near_right > 5_000 && near_wrong > 300 && guessed > 1_000);
     // Every number of every call must come up.
     for (call, wanted) in [
         ("os", &[0, 1][..]),
@@ -619,7 +641,7 @@ fn generated_scripts_agree_with_themselves() {
         ("s", &[0, 1, 2, 11]),
         ("q", &[0, 1, 4, 5, 6]),
         ("p", &[0, 1, 11]),
-        ("r", &[0, 1, 2, 3, 4, 5, 6, 7, 8, 9, 10, 11]),
+        ("r", &[0, 1, 2, 3, 4, 5, 6, 7, 8, 9, 10, 11, 12]),
     ] {
         for number in wanted {
             let name = format!("{call} {number}");
@@ -696,7 +718,7 @@ impl EndpointWatch {
             "bo" => &[0, 1],
             "bw" => &[0, 1, 2, 11],
             "request" => &[0, 1, 4, 5, 6],
-            "arrival" => &[0, 1, 2, 3, 4, 5, 6, 7, 8, 9, 10, 11],
+            "arrival" => &[0, 1, 2, 3, 4, 5, 6, 7, 8, 9, 10, 11, 12],
             "bp" => &[0, 1, 11],
             _ => panic!("{line} is no call of an endpoint"),
         };
@@ -833,7 +855,7 @@ fn generated_endpoint_scripts_agree_with_themselves() {
         ("bw", &[0, 1, 2, 11]),
         ("request", &[0, 1, 4, 5, 6]),
         ("bp", &[0, 1, 11]),
-        ("arrival", &[0, 1, 2, 3, 4, 5, 6, 7, 8, 9, 10, 11]),
+        ("arrival", &[0, 1, 2, 3, 4, 5, 6, 7, 8, 9, 10, 11, 12]),
     ] {
         for number in wanted {
             let name = format!("{call} {number}");

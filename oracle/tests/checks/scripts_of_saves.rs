@@ -276,9 +276,9 @@ impl Watch {
         }
     }
 
-    /// Plain packets and refusals but 8 and 9 leave the table.
+    /// Plain packets and refusals but 8, 9 and 12 leave the table.
     fn see_arrival(&mut self, link_type: &str, number: &str) {
-        let leaves = number == "0" && link_type == "0" || !["0", "8", "9"].contains(&number);
+        let leaves = number == "0" && link_type == "0" || !["0", "8", "9", "12"].contains(&number);
         if !leaves {
             self.file = None;
         }
@@ -498,7 +498,7 @@ fn generated_saves_agree_with_themselves() {
         }
         often(&format!("{how}, longest"), 3);
     }
-    for number in [0, 1, 2, 3, 4, 5, 6, 7, 8, 9, 10, 11] {
+    for number in [0, 1, 2, 3, 4, 5, 6, 7, 8, 9, 10, 11, 12] {
         often(&format!("arrival {number}"), 1);
     }
 }
