@@ -10,6 +10,7 @@ pub mod files;
 pub mod flows;
 pub mod forge;
 pub mod generate;
+pub mod generate_checksums;
 pub mod generate_endpoint;
 pub mod generate_saves;
 pub mod header;

@@ -1,13 +1,13 @@
-//! `gen SEED COUNT [sender|box|saves]`: writes COUNT random calls, the same for the same seed.
+//! `gen SEED COUNT [sender|box|saves|checksums]`: writes COUNT random calls, the same for the same seed.
 
-use oracle::{generate, generate_endpoint, generate_saves};
+use oracle::{generate, generate_checksums, generate_endpoint, generate_saves};
 use std::io::{self, BufWriter, Write};
 use std::process::ExitCode;
 
 fn main() -> ExitCode {
     let words: Vec<String> = std::env::args().skip(1).collect();
     let Some((seed, count, calls)) = read_arguments(&words) else {
-        eprintln!("usage: gen SEED COUNT [sender|box|saves]");
+        eprintln!("usage: gen SEED COUNT [sender|box|saves|checksums]");
         return ExitCode::from(2);
     };
     match write_script(seed, count, calls) {
@@ -28,6 +28,7 @@ enum Calls {
     Compressor,
     Endpoint,
     Saves,
+    Checksums,
 }
 
 fn read_arguments(words: &[String]) -> Option<(u64, usize, Calls)> {
@@ -35,6 +36,7 @@ fn read_arguments(words: &[String]) -> Option<(u64, usize, Calls)> {
         [numbers @ .., last] if last == "sender" => (numbers, Calls::Compressor),
         [numbers @ .., last] if last == "box" => (numbers, Calls::Endpoint),
         [numbers @ .., last] if last == "saves" => (numbers, Calls::Saves),
+        [numbers @ .., last] if last == "checksums" => (numbers, Calls::Checksums),
         _ => (words, Calls::BothTables),
     };
     match numbers {
@@ -56,6 +58,10 @@ fn write_script(seed: u64, count: usize, calls: Calls) -> io::Result<()> {
         }
         Calls::Saves => {
             let mut generator = generate_saves::Generator::new(seed);
+            write_lines(count, || generator.next_line())
+        }
+        Calls::Checksums => {
+            let mut generator = generate_checksums::Generator::new(seed);
             write_lines(count, || generator.next_line())
         }
     }

@@ -908,6 +908,7 @@ fn binaries_work_together() {
         &["3", "2000", "sender"],
         &["3", "2000", "box"],
         &["3", "2000", "saves"],
+        &["3", "2000", "checksums"],
     ] {
         binaries_agree(arguments);
     }
