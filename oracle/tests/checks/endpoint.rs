@@ -870,8 +870,8 @@ fn many_facing_lists() {
         }
     }
     println!(
-        "facing endpoints: {lists} lists, {} calls, {} rebuilt under the premises ({} by a judged checksum), {} dropped, {} without room, \
-         {} forged, {} reports handed over, totals stopped {:?}, answers by number {:?}",
+        "facing endpoints: {lists} lists, {} calls, {} rebuilt under the premises ({} by a judged checksum), {} dropped, \
+         {} without room, {} forged, {} reports handed over, totals stopped {:?}, answers by number {:?}",
         counts.calls,
         counts.rebuilt,
         counts.guessed,
