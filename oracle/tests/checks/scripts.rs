@@ -289,6 +289,40 @@ fn worked_transcript_of_saves() {
     );
 }
 
+/// Checksums over a gap, at both tables and at the endpoint. The packets are those of `udp_checksums`: for sequence 12 21d0
+/// is right, for sequence 14 21ce.
+#[test]
+fn worked_transcript_of_checksums() {
+    transcript(
+        "or 1 1
+         0
+         r 1 45004500006440004011265d0a0000010a000002138c138e000077778000000a000003e811223344da7a 42
+         0 42 4500002a006440004011265d0a0000010a000002138c138e001677778000000a000003e811223344da7a
+         r 3 000221d0da7a 41
+         11 0 -
+         r 3 000221d0da7a 42
+         0 42 4500002a006640004011265b0a0000010a000002138c138e001621d08000000c000003e811223344da7a
+         r 3 000421cfda7a 0
+         12 0 -
+         dr 0
+         1 1 2 1 167772161 167772162 5004 5006 287454020 0 64 1 0 0 1 0 102 12 1000 0 0 15*0 1 0 2 5
+         r 3 000421ceda7a 42
+         8 0 -
+         p 5
+         0 5 0101008205
+         bo 1 1
+         0
+         br 1 45004500006440004011265d0a0000010a000002138c138e000077778000000a000003e811223344da7a 42
+         0 42 4500002a006440004011265d0a0000010a000002138c138e001677778000000a000003e811223344da7a
+         br 3 00020000da7a 42
+         12 0 -
+         bt
+         4*0 1 1
+         bp 5
+         0 5 0101008005",
+    );
+}
+
 #[test]
 fn lines_that_are_no_calls() {
     let mut runner = Runner::default();

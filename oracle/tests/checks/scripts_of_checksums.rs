@@ -108,10 +108,8 @@ impl Watch {
         self.just_now = parts[0] == "12";
         let from_compressor = self.sent.contains(words[2]);
         match arrival.link_type {
-            1 if parts[0] == "0" => {
-                if self.disproved.remove(&arrival.bytes[3]) {
-                    self.count("full header mends what 12 broke");
-                }
+            1 if parts[0] == "0" && self.disproved.remove(&arrival.bytes[3]) => {
+                self.count("full header mends what 12 broke");
             }
             2 | 3 => {
                 let number = parts[0].parse().expect("a number");
@@ -141,7 +139,7 @@ impl Watch {
             }
             return;
         }
-        let gap = (flags & 15) + 16 - context.last_link & 15;
+        let gap = ((flags & 15) + 16 - context.last_link) & 15;
         let at = if arrival.kind() == "CU with F" { 3 } else { 2 };
         // Where it is cut the packet is refused for that.
         let field = arrival.bytes.get(at..at + 2).unwrap_or(&[0, 0]);

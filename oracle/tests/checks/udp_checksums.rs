@@ -28,6 +28,9 @@ checks!(
     right_after_gaps_goes_on,
 );
 
+/// One change to a table, for tables of changes.
+type Change = fn(&mut Table);
+
 /// The packet of an FH at link sequence 0; its checksum is not right for it.
 fn first() -> Voice {
     Voice {
@@ -195,7 +198,7 @@ pub fn every_wrong_bit(mutant: Mutant) -> Outcome {
 /// Every field of the packet that UDP protects, and every byte of the data, changes the sum; what only the IP header
 /// has does not.
 pub fn a_sum_covers_the_packet(mutant: Mutant) -> Outcome {
-    let changes: [(&str, fn(&mut Table)); 14] = [
+    let changes: [(&str, Change); 14] = [
         ("source", |table| table.places[0].fields.source ^= 1 << 16),
         ("source", |table| table.places[0].fields.source ^= 1),
         ("destination", |table| {
@@ -225,7 +228,7 @@ pub fn a_sum_covers_the_packet(mutant: Mutant) -> Outcome {
         change(&mut ends.decompressor);
         disproved(what, &ends, 3, &bytes)?;
     }
-    let others: [(&str, fn(&mut Table)); 6] = [
+    let others: [(&str, Change); 6] = [
         ("TOS", |table| table.places[0].fields.tos ^= 1),
         ("TTL", |table| table.places[0].fields.ttl ^= 1),
         ("flags", |table| table.places[0].fields.flags ^= 1),
