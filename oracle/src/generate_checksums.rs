@@ -16,18 +16,6 @@ use crate::way::Way;
 use crate::{compressor, COMPRESSED_RTP, COMPRESSED_UDP, FULL_HEADER, MAX_PACKET};
 use std::collections::VecDeque;
 
-/// Sums that leave something out or add it in another way; their checksums are plausible and wrong.
-const MISTAKEN_SUMS: [Mutant; 8] = [
-    Mutant::SumWithoutAddresses,
-    Mutant::SumWithoutProtocol,
-    Mutant::SumWithoutLength,
-    Mutant::SumsCarriedChecksum,
-    Mutant::SumsFixedHeadersOnly,
-    Mutant::OddByteDropped,
-    Mutant::OddByteLow,
-    Mutant::SumZeroStaysZero,
-];
-
 pub struct Generator {
     prng: Prng,
     runner: Runner,
@@ -336,7 +324,7 @@ impl Generator {
             _ => {
                 let mut with = packet.to_vec();
                 put16(&mut with, CHECKSUM, right);
-                let mistaken = prng.pick(&MISTAKEN_SUMS);
+                let mistaken = prng.pick(&Mutant::MISTAKEN_SUMS);
                 udp_checksum::of_packet(mistaken, &with[..FIXED], &with[FIXED..])
             }
         }

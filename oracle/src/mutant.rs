@@ -180,4 +180,16 @@ impl Mutant {
         Mutant::LoadJudgesCutHeader,
         Mutant::LoadRefusesOddPort,
     ];
+
+    /// Sums that leave something out or add it in another way; their checksums are plausible and wrong.
+    pub const MISTAKEN_SUMS: [Mutant; 8] = [
+        Mutant::SumWithoutAddresses,
+        Mutant::SumWithoutProtocol,
+        Mutant::SumWithoutLength,
+        Mutant::SumsCarriedChecksum,
+        Mutant::SumsFixedHeadersOnly,
+        Mutant::OddByteDropped,
+        Mutant::OddByteLow,
+        Mutant::SumZeroStaysZero,
+    ];
 }
