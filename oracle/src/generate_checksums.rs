@@ -3,23 +3,22 @@
 //! the checksum that is right and with others, and of lengths up to the greatest and beyond.
 
 use crate::bytes::{get16, put16};
-use crate::decompressor::{self, Context, Status, Table};
+use crate::decompressor::{self, Context, Status};
 use crate::flows::{self, Flow};
 use crate::forge;
 use crate::generate::{exact_length, hex, report_now, room, something_broken};
 use crate::header::FIXED;
 use crate::mutant::Mutant;
+use crate::planned::{Planned, Planner};
 use crate::prng::Prng;
-use crate::script::{Runner, MOST_BYTES};
+use crate::script::MOST_BYTES;
 use crate::udp_checksum::{self, CHECKSUM};
 use crate::way::Way;
 use crate::{compressor, COMPRESSED_RTP, COMPRESSED_UDP, FULL_HEADER, MAX_PACKET};
-use std::collections::VecDeque;
 
 pub struct Generator {
     prng: Prng,
-    runner: Runner,
-    lines: VecDeque<String>,
+    planned: Planned,
     calls_left: usize,
     /// Whether a compressor's packets come in this stretch, and percent of its packets with a change.
     traffic: bool,
@@ -33,8 +32,7 @@ impl Generator {
     pub fn new(seed: u64) -> Self {
         let mut prng = Prng::new(seed);
         Generator {
-            runner: Runner::default(),
-            lines: VecDeque::new(),
+            planned: Planned::default(),
             calls_left: 0,
             traffic: false,
             change: 0,
@@ -43,23 +41,11 @@ impl Generator {
             prng,
         }
     }
+}
 
-    pub fn next_line(&mut self) -> String {
-        if self.lines.is_empty() {
-            self.plan();
-        }
-        let line = self.lines.pop_front().unwrap_or_default();
-        let mut answer = String::new();
-        self.runner.answer(&line, &mut answer);
-        line
-    }
-
-    fn push(&mut self, line: String) {
-        self.lines.push_back(line);
-    }
-
-    fn table(&self) -> &Table {
-        &self.runner.decompressor
+impl Planner for Generator {
+    fn planned(&mut self) -> &mut Planned {
+        &mut self.planned
     }
 
     fn plan(&mut self) {
@@ -67,7 +53,7 @@ impl Generator {
             return self.open_stretch();
         }
         self.calls_left -= 1;
-        let broken = something_broken(self.table());
+        let broken = something_broken(self.planned.table());
         if broken && self.prng.chance(1, if self.traffic { 5 } else { 12 }) {
             self.plan_recovery();
         } else if !self.traffic {
@@ -78,7 +64,9 @@ impl Generator {
             self.plan_arrival();
         }
     }
+}
 
+impl Generator {
     fn open_stretch(&mut self) {
         let prng = &mut self.prng;
         let mut repeats = self.next_repeats;
@@ -107,7 +95,7 @@ impl Generator {
 
     /// The report, and mostly the request that it makes.
     fn plan_recovery(&mut self) {
-        let report = report_now(self.table());
+        let report = report_now(self.planned.table());
         let room = room(&mut self.prng, report.len());
         self.push(format!("p {room}"));
         if self.traffic && self.prng.chance(4, 5) {
@@ -120,7 +108,7 @@ impl Generator {
     fn plan_send(&mut self) {
         let packet = self.way.next_packet(&mut self.prng, self.change);
         let mut output = [0; MOST_BYTES];
-        let mut table = self.runner.compressor.clone();
+        let mut table = self.planned.runner.compressor.clone();
         let answer = compressor::send(&mut table, &packet, &mut output);
         if answer.number == 0 {
             let bytes = output[..answer.length].to_vec();
@@ -135,7 +123,7 @@ impl Generator {
             return self.plan_send();
         };
         if self.prng.chance(1, 8) {
-            let table = &self.runner.decompressor;
+            let table = self.planned.table();
             let header = forge::with_rtp_header(&mut self.prng, table, link_type, &bytes);
             if let Some(header) = header {
                 (link_type, bytes) = (COMPRESSED_UDP, header);
@@ -149,7 +137,7 @@ impl Generator {
             };
             put16(&mut bytes, at, other);
         }
-        let exact = exact_length(self.table(), link_type, &bytes);
+        let exact = exact_length(self.planned.table(), link_type, &bytes);
         let room = room(&mut self.prng, exact);
         self.plan_receive(link_type, &bytes, room);
     }
@@ -157,13 +145,13 @@ impl Generator {
     fn carries_checksum(&self, link_type: u32, bytes: &[u8]) -> bool {
         [COMPRESSED_UDP, COMPRESSED_RTP].contains(&link_type)
             && bytes.len() >= 5
-            && self.table().places[usize::from(bytes[0] % 64)].carried
+            && self.planned.table().places[usize::from(bytes[0] % 64)].carried
     }
 
     /// An arrival, and often a look at what a refusal left: the context, the report, or the same packet again.
     fn plan_receive(&mut self, link_type: u32, bytes: &[u8], room: usize) {
         let mut output = vec![0; room];
-        let mut table = self.table().clone();
+        let mut table = self.planned.table().clone();
         let answer = decompressor::receive(&mut table, link_type, bytes, &mut output);
         let line = format!("r {link_type} {} {room}", hex(bytes));
         self.push(line.clone());
@@ -188,13 +176,13 @@ impl Generator {
     // Packets made for the table
 
     fn plan_made_packet(&mut self) {
-        let contexts = usize::from(self.table().contexts);
+        let contexts = usize::from(self.planned.table().contexts);
         let place = match self.prng.below(8) {
             0 => self.prng.below(contexts),
             1 => contexts - 1,
             _ => 0,
         };
-        let context = self.table().places[place];
+        let context = self.planned.table().places[place];
         let ready = match context.status {
             Status::Live if context.carried => self.prng.chance(15, 16),
             Status::Live => self.prng.chance(2, 3),
@@ -234,7 +222,7 @@ impl Generator {
         let link_type = self.prng.pick(&[COMPRESSED_UDP, COMPRESSED_RTP]);
         let mut bytes = self.some_front(place, link, link_type, context.carried);
         self.add_data(link_type, &mut bytes);
-        let mut packet = forge::rebuilt(self.table(), link_type, &bytes);
+        let mut packet = forge::rebuilt(self.planned.table(), link_type, &bytes);
         if let Some(packet) = packet.as_mut().filter(|_| context.carried) {
             let sum_is_zero = self.prng.chance(1, 6) && make_sum_zero(packet, &mut bytes);
             let checksum = self.some_checksum(packet, sum_is_zero);
@@ -248,7 +236,7 @@ impl Generator {
 
     /// Mostly one that is judged; 1 is not, and 0 and those over N+1 are refused.
     fn some_gap(&mut self) -> u8 {
-        let most = usize::from(self.table().repeats) + 1;
+        let most = usize::from(self.planned.table().repeats) + 1;
         let prng = &mut self.prng;
         let gap = match prng.below(20) {
             0 => 0,
@@ -273,7 +261,7 @@ impl Generator {
                 forge::compressed_rtp(&mut self.prng, link, checksum)
             };
             bytes.insert(0, place);
-            let good = forge::rebuilt(self.table(), link_type, &bytes).is_some();
+            let good = forge::rebuilt(self.planned.table(), link_type, &bytes).is_some();
             if good || self.prng.chance(1, 20) {
                 break;
             }
@@ -283,8 +271,8 @@ impl Generator {
 
     /// No data, little, or so much that the packet has the greatest length or nearly so, or just more.
     fn add_data(&mut self, link_type: u32, bytes: &mut Vec<u8>) {
-        let headers =
-            forge::rebuilt(self.table(), link_type, bytes).map_or(FIXED, |packet| packet.len());
+        let headers = forge::rebuilt(self.planned.table(), link_type, bytes)
+            .map_or(FIXED, |packet| packet.len());
         let prng = &mut self.prng;
         let to = |length: usize| length.saturating_sub(headers);
         let count = match prng.below(64) {

@@ -15,6 +15,7 @@ pub mod generate_endpoint;
 pub mod generate_saves;
 pub mod header;
 pub mod mutant;
+pub mod planned;
 pub mod prng;
 pub mod refusal;
 pub mod saved;

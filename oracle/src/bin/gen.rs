@@ -1,5 +1,6 @@
 //! `gen SEED COUNT [sender|box|saves|checksums]`: writes COUNT random calls, the same for the same seed.
 
+use oracle::planned::Planner;
 use oracle::{generate, generate_checksums, generate_endpoint, generate_saves};
 use std::io::{self, BufWriter, Write};
 use std::process::ExitCode;
@@ -47,30 +48,18 @@ fn read_arguments(words: &[String]) -> Option<(u64, usize, Calls)> {
 
 fn write_script(seed: u64, count: usize, calls: Calls) -> io::Result<()> {
     match calls {
-        Calls::BothTables | Calls::Compressor => {
-            let sender_only = matches!(calls, Calls::Compressor);
-            let mut generator = generate::Generator::new(seed, sender_only);
-            write_lines(count, || generator.next_line())
-        }
-        Calls::Endpoint => {
-            let mut generator = generate_endpoint::Generator::new(seed);
-            write_lines(count, || generator.next_line())
-        }
-        Calls::Saves => {
-            let mut generator = generate_saves::Generator::new(seed);
-            write_lines(count, || generator.next_line())
-        }
-        Calls::Checksums => {
-            let mut generator = generate_checksums::Generator::new(seed);
-            write_lines(count, || generator.next_line())
-        }
+        Calls::BothTables => write_lines(count, generate::Generator::new(seed, false)),
+        Calls::Compressor => write_lines(count, generate::Generator::new(seed, true)),
+        Calls::Endpoint => write_lines(count, generate_endpoint::Generator::new(seed)),
+        Calls::Saves => write_lines(count, generate_saves::Generator::new(seed)),
+        Calls::Checksums => write_lines(count, generate_checksums::Generator::new(seed)),
     }
 }
 
-fn write_lines(count: usize, mut next_line: impl FnMut() -> String) -> io::Result<()> {
+fn write_lines(count: usize, mut generator: impl Planner) -> io::Result<()> {
     let mut output = BufWriter::with_capacity(1 << 16, io::stdout().lock());
     for _ in 0..count {
-        output.write_all(next_line().as_bytes())?;
+        output.write_all(generator.next_line().as_bytes())?;
         output.write_all(b"\n")?;
     }
     output.flush()

@@ -1,6 +1,6 @@
 //! The text form of calls, and generated scripts: answers are well formed and agree with each other.
 
-use crate::support::{hex, udp_checksum_wrong};
+use crate::support::{hex, lines_of, same_for_the_same_seed, udp_checksum_wrong};
 use oracle::decompressor;
 use oracle::generate::Generator;
 use oracle::generate_endpoint;
@@ -645,11 +645,9 @@ fn generated_scripts_agree_with_themselves() {
     let mut calls = 0;
     let mut numbers: HashMap<String, usize> = HashMap::new();
     for seed in 0..12 {
-        let mut generator = Generator::new(seed, false);
         let mut runner = Runner::default();
         let mut watch = Watch::default();
-        for _ in 0..25_000 {
-            let line = generator.next_line();
+        for line in lines_of(Generator::new(seed, false), 25_000) {
             let answer = answer(&mut runner, &line);
             watch.see(&line, &answer);
             calls += 1;
@@ -840,11 +838,9 @@ fn generated_endpoint_scripts_agree_with_themselves() {
     let (mut moved, mut stopped) = ([0; 6], [0; 6]);
     let (mut lines, mut shows, mut rebuilt) = (0, 0, 0);
     for seed in 0..12 {
-        let mut generator = generate_endpoint::Generator::new(seed);
         let mut runner = Runner::default();
         let mut watch = EndpointWatch::new();
-        for _ in 0..15_000 {
-            let line = generator.next_line();
+        for line in lines_of(generate_endpoint::Generator::new(seed), 15_000) {
             let answer = answer(&mut runner, &line);
             watch.see(&line, &answer);
             lines += 1;
@@ -903,15 +899,10 @@ fn generated_endpoint_scripts_agree_with_themselves() {
 
 #[test]
 fn generated_endpoint_scripts_are_the_same_for_the_same_seed() {
-    let script = |seed: u64| -> Vec<String> {
-        let mut generator = generate_endpoint::Generator::new(seed);
-        (0..3000).map(|_| generator.next_line()).collect()
-    };
-    assert_eq!(script(5), script(5));
-    assert_ne!(script(5), script(6));
+    same_for_the_same_seed(generate_endpoint::Generator::new);
     // Only the endpoint's calls; lines that are no calls stand among them.
     let mut runner = Runner::default();
-    for line in script(5) {
+    for line in lines_of(generate_endpoint::Generator::new(5), 3000) {
         let call = line.split(' ').next().unwrap_or("");
         let known = matches!(call, "bo" | "bw" | "br" | "bp" | "bt" | "wt");
         assert!(answer(&mut runner, &line) == "?" || known, "{line}");
@@ -920,15 +911,10 @@ fn generated_endpoint_scripts_are_the_same_for_the_same_seed() {
 
 #[test]
 fn generated_scripts_are_the_same_for_the_same_seed() {
-    let script = |seed: u64, sender_only: bool| -> Vec<String> {
-        let mut generator = Generator::new(seed, sender_only);
-        (0..3000).map(|_| generator.next_line()).collect()
-    };
-    assert_eq!(script(5, false), script(5, false));
-    assert_ne!(script(5, false), script(6, false));
+    same_for_the_same_seed(|seed| Generator::new(seed, false));
     // Only the sender's calls when asked; lines that are no calls stand among them.
     let mut runner = Runner::default();
-    for line in script(5, true) {
+    for line in lines_of(Generator::new(5, true), 3000) {
         let call = line.split(' ').next().unwrap_or("");
         let known = matches!(call, "os" | "s" | "q" | "ws" | "ds");
         assert!(known || answer(&mut runner, &line) == "?", "{line}");

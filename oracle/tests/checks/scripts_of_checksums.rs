@@ -2,7 +2,7 @@
 //! at every gap, and every fault in judging is noticed.
 
 use crate::scripts::answer;
-use crate::support::{hex, udp_checksum_of, FILL};
+use crate::support::{hex, lines_of, not_too_long, same_for_the_same_seed, udp_checksum_of, FILL};
 use oracle::decompressor::{self, Status, Table};
 use oracle::generate_checksums::Generator;
 use oracle::mutant::Mutant;
@@ -279,11 +279,9 @@ impl Watch {
 }
 
 fn watched(seed: u64) -> Watch {
-    let mut generator = Generator::new(seed);
     let mut runner = Runner::default();
     let mut watch = Watch::default();
-    for _ in 0..LINES {
-        let line = generator.next_line();
+    for line in lines_of(Generator::new(seed), LINES) {
         let before = runner.decompressor.clone();
         let answer = answer(&mut runner, &line);
         watch.see(&line, &answer, &before, &runner.decompressor);
@@ -400,10 +398,8 @@ fn generated_checksums_notice_every_fault() {
         .filter(|fault| *fault != Mutant::WrongChecksumNotCounted);
     let mut noticed: Vec<(Mutant, usize)> = faults.map(|fault| (fault, 0)).collect();
     assert_eq!(noticed.len(), 21);
-    let mut generator = Generator::new(200);
     let mut runner = Runner::default();
-    for _ in 0..LINES / 2 {
-        let line = generator.next_line();
+    for line in lines_of(Generator::new(200), LINES / 2) {
         let before = runner.decompressor.clone();
         let right = answer(&mut runner, &line);
         let Some(arrival) = Arrival::read(&line) else {
@@ -423,19 +419,10 @@ fn generated_checksums_notice_every_fault() {
 
 #[test]
 fn generated_checksums_are_the_same_for_the_same_seed() {
-    let script = |seed: u64| -> Vec<String> {
-        let mut generator = Generator::new(seed);
-        (0..3000).map(|_| generator.next_line()).collect()
-    };
-    assert_eq!(script(5), script(5));
-    assert_ne!(script(5), script(6));
+    same_for_the_same_seed(Generator::new);
 }
 
-/// Scripts must stay short enough to be compared by the ten thousand.
 #[test]
 fn generated_checksums_are_not_too_long() {
-    let mut generator = Generator::new(9);
-    let bytes: usize = (0..60_000).map(|_| generator.next_line().len() + 1).sum();
-    println!("60,000 lines of checksums have {bytes} bytes");
-    assert!(bytes < 20_000_000);
+    not_too_long("checksums", Generator::new(9));
 }

@@ -1,6 +1,7 @@
-//! Both ends under a chosen fault, packets built by hand, and small helpers.
+//! Both ends under a chosen fault, packets built by hand, checks of any generator, and small helpers.
 
 use oracle::mutant::Mutant;
+use oracle::planned::Planner;
 use oracle::refusal::Answer;
 use oracle::{compressor, decompressor, saved};
 
@@ -354,4 +355,23 @@ pub fn udp_checksum_of(packet: &[u8]) -> u16 {
 pub fn udp_checksum_wrong(packet: &[u8]) -> bool {
     let found = u16::from(packet[26]) * 256 + u16::from(packet[27]);
     found != 0 && found != udp_checksum_of(packet)
+}
+
+/// The first lines of a generator's script.
+pub fn lines_of(mut generator: impl Planner, count: usize) -> impl Iterator<Item = String> {
+    (0..count).map(move |_| generator.next_line())
+}
+
+/// A script that shows something can be had again by its seed.
+pub fn same_for_the_same_seed<G: Planner>(generator: impl Fn(u64) -> G) {
+    let script = |seed: u64| -> Vec<String> { lines_of(generator(seed), 3000).collect() };
+    assert_eq!(script(5), script(5));
+    assert_ne!(script(5), script(6));
+}
+
+/// Scripts must stay short enough to be compared by the ten thousand.
+pub fn not_too_long(what: &str, generator: impl Planner) {
+    let bytes: usize = lines_of(generator, 60_000).map(|line| line.len() + 1).sum();
+    println!("60,000 lines of {what} have {bytes} bytes");
+    assert!(bytes < 20_000_000);
 }
