@@ -6,6 +6,7 @@ use crate::codes;
 use crate::header::{self, Fields, Header, FIXED, MAX_CSRC};
 use crate::mutant::Mutant;
 use crate::refusal::{Answer, Refusal};
+use crate::udp_checksum;
 use crate::{
     packet_length_allowed, settings_in_range, COMPRESSED_RTP, COMPRESSED_UDP, FULL_HEADER,
     MAX_PACKET, PLACES, PLAIN,
@@ -190,6 +191,12 @@ fn accept_full_header(
         return Err(Refusal::CutShort);
     }
     let header = header::parse(packet);
+    if mutant == Mutant::ChecksumJudgedInFullHeader
+        && header.udp_checksum != 0
+        && !udp_checksum::right(mutant, &front, &packet[FIXED..])
+    {
+        return Err(Refusal::UdpChecksum);
+    }
     let length = deliver(output, &front, &packet[FIXED..])?;
     table.places[place] = Context {
         status: Status::Live,
@@ -241,22 +248,83 @@ fn accept_compressed(
         read_compressed_rtp(mutant, flags, context.carried, &mut reader)?
     };
     let rest = reader.rest();
+    if mutant == Mutant::ChecksumBeforeGap && gap > 0 {
+        let (after, front) = rebuild(mutant, context, &carried, gap, flags & 15, rest);
+        judge_checksum(mutant, context, &after, gap, &front, rest)?;
+    }
     if !gap_allowed {
         break_context(mutant, context);
         return Err(Refusal::Gap);
     }
-    let after = advance(mutant, context, &carried, gap, flags & 15);
-    if FIXED + 4 * usize::from(after.fields.cc) + rest.len() > MAX_PACKET {
+    let (after, front) = rebuild(mutant, context, &carried, gap, flags & 15, rest);
+    let length = front.len() + rest.len();
+    if mutant == Mutant::ChecksumBeforeLength {
+        judge_checksum(mutant, context, &after, gap, &front, rest)?;
+    }
+    if length > MAX_PACKET {
         return Err(Refusal::RebuiltLength);
     }
+    if mutant == Mutant::ChecksumAfterRoom && output.len() < length {
+        return Err(Refusal::Room);
+    }
+    judge_checksum(mutant, context, &after, gap, &front, rest)?;
+    deliver(output, &front, rest)?;
+    *context = after;
+    Ok(length)
+}
+
+/// The context after the packet, and the packet's headers; `rest` follows them as it came.
+fn rebuild(
+    mutant: Mutant,
+    before: &Context,
+    carried: &Carried,
+    gap: u8,
+    link: u8,
+    rest: &[u8],
+) -> (Context, Vec<u8>) {
+    let after = advance(mutant, before, carried, gap, link);
     let header = Header {
         fields: after.fields,
         marker: after.marker,
         udp_checksum: carried.udp_checksum,
     };
-    let length = deliver(output, &header::build(&header, rest.len()), rest)?;
-    *context = after;
-    Ok(length)
+    (after, header::build(&header, rest.len()))
+}
+
+/// Over a gap the packet is a guess: those that were missed may have brought something it relies on. Where the flow has
+/// UDP checksums a wrong one disproves the guess, with or without room for the packet. The packet is not taken; what the
+/// context held may be out of step, so it breaks. Without a gap nothing is guessed, and the checksum may be anything.
+fn judge_checksum(
+    mutant: Mutant,
+    context: &mut Context,
+    after: &Context,
+    gap: u8,
+    front: &[u8],
+    rest: &[u8],
+) -> Result<(), Refusal> {
+    let carried = context.carried || mutant == Mutant::ChecksumJudgedWhereBlank;
+    let judged = match mutant {
+        Mutant::ChecksumNeverJudged => false,
+        Mutant::ChecksumJudgedWithoutGap => carried,
+        Mutant::ChecksumJudgedFromThirdStep => carried && gap > 2,
+        _ => carried && gap > 1,
+    };
+    if !judged || udp_checksum::right(mutant, front, rest) {
+        return Ok(());
+    }
+    if matches!(
+        mutant,
+        Mutant::WrongChecksumTakesPacket | Mutant::WrongChecksumKeepsAdvance
+    ) {
+        *context = *after;
+    }
+    if !matches!(
+        mutant,
+        Mutant::WrongChecksumTakesPacket | Mutant::WrongChecksumLeavesTable
+    ) {
+        break_context(mutant, context);
+    }
+    Err(Refusal::UdpChecksum)
 }
 
 /// Only the state changes: the report still needs the last sequence and generation.

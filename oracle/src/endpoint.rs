@@ -225,7 +225,9 @@ fn count(mutant: Mutant, total: &mut u32) {
 
 /// A refusal by 1 tells of the table and not of the call, and is not counted.
 fn count_refusal(mutant: Mutant, totals: &mut Totals, number: u8) {
-    let counted = number > Refusal::Unsound.number()
+    let skipped =
+        number == Refusal::UdpChecksum.number() && mutant == Mutant::WrongChecksumNotCounted;
+    let counted = number > Refusal::Unsound.number() && !skipped
         || number == Refusal::Unsound.number() && mutant == Mutant::CountsUnsound;
     if counted {
         count(mutant, &mut totals.refused);

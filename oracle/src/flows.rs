@@ -2,8 +2,9 @@
 //! and collisions are frequent, and packets that just fail to be compressible.
 
 use crate::bytes::{get16, ip_checksum, put16};
-use crate::header::{self, Fields, Header, MAX_CSRC};
+use crate::header::{self, Fields, Header, FIXED, MAX_CSRC};
 use crate::prng::Prng;
+use crate::udp_checksum::{self, CHECKSUM};
 
 const ID_STEPS: [u16; 12] = [1, 1, 1, 2, 5, 0, 300, 65535, 65408, 16384, 49151, 49152];
 const TIMESTAMP_STEPS: [u32; 18] = [
@@ -27,7 +28,8 @@ const TIMESTAMP_STEPS: [u32; 18] = [
     u32::MAX - 16384,
 ];
 
-/// One flow: the header of its last packet and how the next one is meant to differ.
+/// One flow: the header of its last packet and how the next one is meant to differ. Of the UDP checksum the header tells
+/// only whether the flow has them; a packet gets its own once it is whole.
 pub struct Flow {
     pub header: Header,
     pub id_step: u16,
@@ -71,8 +73,27 @@ impl Flow {
         flow
     }
 
+    /// The next packet of the flow, with a change in `change` percent of cases. If it has a UDP checksum, that is wrong in
+    /// `wrong` percent of cases.
+    pub fn next_packet(&mut self, prng: &mut Prng, change: usize, wrong: usize) -> Vec<u8> {
+        let header = self.next(prng, change);
+        let payload = payload(prng, &header);
+        let mut bytes = packet(&header, &payload);
+        if header.udp_checksum != 0 {
+            if prng.chance(1, 30) {
+                make_udp_sum_zero(&mut bytes);
+            }
+            let mut checksum = udp_checksum::of_whole(&bytes);
+            if prng.below(100) < wrong {
+                checksum = other_checksum(prng, checksum).max(1);
+            }
+            put16(&mut bytes, CHECKSUM, checksum);
+        }
+        bytes
+    }
+
     /// The next header of the flow; a change in `percent` of cases.
-    pub fn next(&mut self, prng: &mut Prng, percent: usize) -> Header {
+    fn next(&mut self, prng: &mut Prng, percent: usize) -> Header {
         let fields = &mut self.header.fields;
         fields.id = fields.id.wrapping_add(self.id_step);
         fields.sequence = fields.sequence.wrapping_add(1);
@@ -151,8 +172,33 @@ fn change_list(prng: &mut Prng, fields: &mut Fields) {
     }
 }
 
+/// A checksum that is wrong where `right` is right, but for rare chance: a bit off, one off, halves swapped, FFFF or any.
+pub fn other_checksum(prng: &mut Prng, right: u16) -> u16 {
+    match prng.below(6) {
+        0 | 1 => right ^ 1 << prng.below(16),
+        2 => right.wrapping_add(prng.pick(&[1, 0xffff])),
+        3 => right.swap_bytes(),
+        4 => 0xffff,
+        _ => prng.number() as u16,
+    }
+}
+
+/// Alters the last whole word after the fixed headers, if there is one, so that the UDP sum comes out 0000, for which
+/// FFFF is sent.
+pub fn make_udp_sum_zero(packet: &mut [u8]) {
+    let at = packet.len() / 2 * 2 - 2;
+    if at < FIXED {
+        return;
+    }
+    put16(packet, at, 0);
+    let lacking = udp_checksum::of_whole(packet);
+    if lacking != 0xffff {
+        put16(packet, at, lacking);
+    }
+}
+
 /// A short payload, now and then none, and rarely one that fills the packet.
-pub fn payload(prng: &mut Prng, header: &Header) -> Vec<u8> {
+fn payload(prng: &mut Prng, header: &Header) -> Vec<u8> {
     let room = 1500 - header::FIXED - 4 * usize::from(header.fields.cc);
     let count = if prng.chance(1, 800) {
         room - prng.below(2)

@@ -4,8 +4,10 @@ use crate::bytes::{ip_checksum, put16};
 use crate::codes;
 use crate::decompressor::{self, Status, Table};
 use crate::flows;
+use crate::mutant::Mutant;
 use crate::prng::Prng;
-use crate::{COMPRESSED_RTP, COMPRESSED_UDP, MAX_PACKET};
+use crate::udp_checksum;
+use crate::{COMPRESSED_RTP, COMPRESSED_UDP, MAX_PACKET, MAX_REPEATS};
 
 /// One difference code, rarely an unused one.
 fn code(prng: &mut Prng) -> Vec<u8> {
@@ -63,10 +65,50 @@ pub fn compressed(prng: &mut Prng, table: &Table) -> (u32, Vec<u8>) {
         let count = prng.below(5);
         bytes.extend(prng.bytes(count));
     }
+    // Else hardly any would be taken after a gap.
+    if prng.chance(4, 5) {
+        put_right_checksum(table, link_type, &mut bytes);
+    }
     (link_type, bytes)
 }
 
-fn compressed_rtp(prng: &mut Prng, link: u8, checksum: &[u8]) -> Vec<u8> {
+/// What a CU or CR would rebuild if no gap were too long and no checksum were judged; none if it is refused for another
+/// reason.
+pub(crate) fn rebuilt(table: &Table, link_type: u32, bytes: &[u8]) -> Option<Vec<u8>> {
+    let mut table = table.clone();
+    table.repeats = MAX_REPEATS;
+    let mut packet = vec![0; MAX_PACKET];
+    let unjudged = Mutant::ChecksumNeverJudged;
+    let answer = decompressor::receive_with(unjudged, &mut table, link_type, bytes, &mut packet);
+    packet.truncate(answer.length);
+    (answer.number == 0).then_some(packet)
+}
+
+/// Where the checksum stands in a CU or CR that carries one.
+pub(crate) fn checksum_at(link_type: u32, bytes: &[u8]) -> usize {
+    let second_byte = link_type == COMPRESSED_UDP && bytes[1] & 0x80 != 0;
+    if second_byte {
+        3
+    } else {
+        2
+    }
+}
+
+/// Makes the checksum of a CU or CR, if it carries one, right for what it would rebuild.
+fn put_right_checksum(table: &Table, link_type: u32, bytes: &mut [u8]) {
+    let context = bytes
+        .first()
+        .and_then(|&place| table.places.get(usize::from(place)));
+    if !context.is_some_and(|context| context.carried) {
+        return;
+    }
+    if let Some(packet) = rebuilt(table, link_type, bytes) {
+        let at = checksum_at(link_type, bytes);
+        put16(bytes, at, udp_checksum::of_whole(&packet));
+    }
+}
+
+pub(crate) fn compressed_rtp(prng: &mut Prng, link: u8, checksum: &[u8]) -> Vec<u8> {
     let mut flags = if prng.chance(1, 3) {
         0xf0
     } else {
@@ -89,7 +131,7 @@ fn compressed_rtp(prng: &mut Prng, link: u8, checksum: &[u8]) -> Vec<u8> {
     bytes
 }
 
-fn compressed_udp(prng: &mut Prng, link: u8, checksum: &[u8]) -> Vec<u8> {
+pub(crate) fn compressed_udp(prng: &mut Prng, link: u8, checksum: &[u8]) -> Vec<u8> {
     let flags = prng.byte() & 0xf0;
     let second = prng.byte() & 0xf0 | list_length(prng);
     let mut bytes = vec![flags | link];

@@ -6,10 +6,11 @@ use crate::decompressor::{self, Status};
 use crate::flows::{self, Flow};
 use crate::forge;
 use crate::mutant::Mutant;
+use crate::planned::{Planned, Planner};
 use crate::prng::Prng;
 use crate::script::{
     compressor_field, compressor_table_field, decompressor_field, decompressor_table_field,
-    push_hex, Field, Runner, COMPRESSOR_FIELDS, DECOMPRESSOR_FIELDS, MOST_BYTES,
+    push_hex, Field, COMPRESSOR_FIELDS, DECOMPRESSOR_FIELDS, MOST_BYTES,
 };
 use crate::{compressor, COMPRESSED_UDP, PLACES};
 use std::collections::VecDeque;
@@ -32,8 +33,9 @@ pub(crate) const LINK_TYPES: [u32; 12] = [0, 1, 2, 3, 4, 5, 6, 255, 256, 65536, 
 /// How one stretch of calls between two openings behaves.
 struct Stretch {
     calls_left: usize,
-    /// Percent of packets with a change.
+    /// Percent of packets with a change, and of UDP checksums that are wrong.
     change: usize,
+    wrong: usize,
     /// Percent of calls that are hostile or odd.
     odd: usize,
     /// Longest run of losses on the link, and percent of arrivals that start one.
@@ -44,15 +46,14 @@ struct Stretch {
     /// Whether tables are written by hand.
     by_hand: bool,
     /// Both ends in step throughout: same settings, nothing forged, never more than N lost in a row
-    /// on a context.
+    /// on a context, nor any where checksums are wrong.
     clean: bool,
 }
 
 pub struct Generator {
     prng: Prng,
     sender_only: bool,
-    runner: Runner,
-    lines: VecDeque<String>,
+    planned: Planned,
     stretch: Stretch,
     flows: Vec<Flow>,
     in_flight: VecDeque<(u32, Vec<u8>)>,
@@ -70,12 +71,12 @@ impl Generator {
         Generator {
             prng,
             sender_only,
-            runner: Runner::default(),
-            lines: VecDeque::new(),
+            planned: Planned::default(),
             // The first stretch runs before any opening.
             stretch: Stretch {
                 calls_left: 12,
                 change: 10,
+                wrong: 10,
                 odd: 50,
                 longest_loss: 0,
                 loss: 0,
@@ -90,19 +91,11 @@ impl Generator {
             repair: None,
         }
     }
+}
 
-    pub fn next_line(&mut self) -> String {
-        if self.lines.is_empty() {
-            self.plan();
-        }
-        let line = self.lines.pop_front().unwrap_or_default();
-        let mut answer = String::new();
-        self.runner.answer(&line, &mut answer);
-        line
-    }
-
-    fn push(&mut self, line: String) {
-        self.lines.push_back(line);
+impl Planner for Generator {
+    fn planned(&mut self) -> &mut Planned {
+        &mut self.planned
     }
 
     fn plan(&mut self) {
@@ -126,16 +119,18 @@ impl Generator {
             self.plan_arrival();
         }
     }
+}
 
+impl Generator {
     /// Broken contexts are asked for again before long, else stretches would stay refused.
     fn recovery_wanted(&mut self) -> bool {
-        let broken = something_broken(&self.runner.decompressor);
+        let broken = something_broken(&self.planned.runner.decompressor);
         !self.sender_only && broken && self.prng.chance(1, 20)
     }
 
     /// The report, and mostly the request it makes.
     fn plan_recovery(&mut self) {
-        let report = report_now(&self.runner.decompressor);
+        let report = report_now(&self.planned.runner.decompressor);
         self.push("p 200".to_string());
         if !report.is_empty() && self.prng.chance(4, 5) {
             self.push(format!("q {}", hex(&report)));
@@ -150,6 +145,7 @@ impl Generator {
         self.stretch = Stretch {
             calls_left: prng.between(longest / 2, longest),
             change: prng.pick(&[1, 2, 4, 10, 30]),
+            wrong: prng.pick(&[0, 3, 10, 25]),
             odd: prng.pick(&[3, 8, 15, 30]),
             longest_loss: prng.pick(&[0, repeats, repeats, repeats, repeats + 2, 20]),
             loss: prng.pick(&[5, 15, 30]),
@@ -161,6 +157,9 @@ impl Generator {
             self.stretch.by_hand = false;
             self.stretch.rtp_headers = 0;
             self.stretch.longest_loss = prng.pick(&[0, repeats, repeats]);
+            if self.stretch.longest_loss > 0 {
+                self.stretch.wrong = 0;
+            }
         }
         if self.stretch.by_hand {
             self.stretch.odd = self.stretch.odd.max(15);
@@ -185,15 +184,15 @@ impl Generator {
 
     fn plan_flow_packet(&mut self) {
         let which = self.prng.below(self.flows.len());
-        let header = self.flows[which].next(&mut self.prng, self.stretch.change);
-        let payload = flows::payload(&mut self.prng, &header);
-        self.plan_send(&flows::packet(&header, &payload));
+        let Stretch { change, wrong, .. } = self.stretch;
+        let packet = self.flows[which].next_packet(&mut self.prng, change, wrong);
+        self.plan_send(&packet);
     }
 
     /// Tries the send on a copy to know its exact length, and remembers what it gives out.
     fn plan_send(&mut self, packet: &[u8]) {
         let mut output = [0; MOST_BYTES];
-        let mut table = self.runner.compressor.clone();
+        let mut table = self.planned.runner.compressor.clone();
         let answer = compressor::send(&mut table, packet, &mut output);
         let room = room(&mut self.prng, answer.length);
         if answer.number == 0 && room >= answer.length && !self.sender_only {
@@ -217,7 +216,7 @@ impl Generator {
             (link_type, bytes) = (COMPRESSED_UDP, header);
         }
         let place = place_of(link_type, &bytes);
-        let exact = exact_length(&self.runner.decompressor, link_type, &bytes);
+        let exact = exact_length(&self.planned.runner.decompressor, link_type, &bytes);
         let mut room = room(&mut self.prng, exact);
         if room < exact && !self.may_lose(place) {
             room = exact;
@@ -235,7 +234,8 @@ impl Generator {
         if self.prng.below(100) >= self.stretch.rtp_headers {
             return None;
         }
-        forge::with_rtp_header(&mut self.prng, &self.runner.decompressor, link_type, sent)
+        let table = &self.planned.runner.decompressor;
+        forge::with_rtp_header(&mut self.prng, table, link_type, sent)
     }
 
     fn lose_some(&mut self) {
@@ -254,9 +254,10 @@ impl Generator {
 
     /// In clean stretches one of N+1 neighbours on a context must get through.
     fn may_lose(&self, place: Option<u8>) -> bool {
-        let repeats = usize::from(self.runner.compressor.repeats);
-        !self.stretch.clean
-            || place.is_none_or(|place| self.lost_in_a_row[usize::from(place)] < repeats)
+        let repeats = usize::from(self.planned.runner.compressor.repeats);
+        let few =
+            |place: u8| self.stretch.wrong == 0 && self.lost_in_a_row[usize::from(place)] < repeats;
+        !self.stretch.clean || place.is_none_or(few)
     }
 
     fn count(&mut self, place: Option<u8>, lost: bool) {
@@ -267,7 +268,7 @@ impl Generator {
     }
 
     fn plan_receive(&mut self, link_type: u32, bytes: &[u8]) {
-        let exact = exact_length(&self.runner.decompressor, link_type, bytes);
+        let exact = exact_length(&self.planned.runner.decompressor, link_type, bytes);
         let room = room(&mut self.prng, exact);
         self.push(format!("r {link_type} {} {room}", hex(bytes)));
     }
@@ -288,8 +289,8 @@ impl Generator {
             59..=66 => self.plan_report(),
             _ if self.stretch.clean => self.plan_flow_packet(),
             67..=84 => {
-                let (link_type, bytes) =
-                    forge::compressed(&mut self.prng, &self.runner.decompressor);
+                let table = &self.planned.runner.decompressor;
+                let (link_type, bytes) = forge::compressed(&mut self.prng, table);
                 self.plan_receive(link_type, &bytes);
             }
             85..=90 => self.plan_forged_full_header(),
@@ -305,17 +306,17 @@ impl Generator {
 
     /// Half of the requests are the report the decompressor would give now.
     fn plan_request(&mut self) {
-        let report = report_now(&self.runner.decompressor);
+        let report = report_now(&self.planned.runner.decompressor);
         let bytes = if !report.is_empty() && self.prng.bit() {
             report
         } else {
-            forge::request(&mut self.prng, self.runner.compressor.contexts)
+            forge::request(&mut self.prng, self.planned.runner.compressor.contexts)
         };
         self.push(format!("q {}", hex(&bytes)));
     }
 
     fn plan_report(&mut self) {
-        let report = report_now(&self.runner.decompressor);
+        let report = report_now(&self.planned.runner.decompressor);
         let room = room(&mut self.prng, report.len());
         self.push(format!("p {room}"));
     }
@@ -329,7 +330,7 @@ impl Generator {
 
     fn plan_forged_full_header(&mut self) {
         let which = self.prng.below(self.flows.len());
-        let table = &self.runner.decompressor;
+        let table = &self.planned.runner.decompressor;
         let bytes = forged_full_header(&mut self.prng, &self.flows[which], table);
         self.plan_receive(1, &bytes);
     }
@@ -391,19 +392,20 @@ impl Generator {
 
     /// A place that matters: mostly one in use, else one below K, now and then any.
     fn likely_place(&mut self, of_decompressor: bool) -> usize {
+        let runner = &self.planned.runner;
         let used: Vec<usize> = (0..PLACES)
             .filter(|&place| {
                 if of_decompressor {
-                    self.runner.decompressor.places[place].status != Status::Empty
+                    runner.decompressor.places[place].status != Status::Empty
                 } else {
-                    self.runner.compressor.places[place].live
+                    runner.compressor.places[place].live
                 }
             })
             .collect();
         let contexts = if of_decompressor {
-            self.runner.decompressor.contexts
+            runner.decompressor.contexts
         } else {
-            self.runner.compressor.contexts
+            runner.compressor.contexts
         };
         match self.prng.below(20) {
             0 => self.prng.below(PLACES),
@@ -447,9 +449,10 @@ impl Generator {
     fn plan_whole_context(&mut self, of_decompressor: bool) {
         let which = self.prng.below(self.flows.len());
         if of_decompressor {
-            let place = self.prng.below(self.runner.decompressor.contexts.into());
+            let table = &self.planned.runner.decompressor;
+            let place = self.prng.below(table.contexts.into());
+            let mut now = table.places[place];
             let mut wanted = self.some_decompressor_context(which);
-            let mut now = self.runner.decompressor.places[place];
             for name in DECOMPRESSOR_FIELDS {
                 let value = decompressor_field(&mut wanted, name).map_or(0, |field| field.get());
                 let old = decompressor_field(&mut now, name).map_or(0, |field| field.get());
@@ -459,9 +462,10 @@ impl Generator {
             }
             self.push(format!("dr {place}"));
         } else {
-            let place = self.prng.below(self.runner.compressor.contexts.into());
+            let table = &self.planned.runner.compressor;
+            let place = self.prng.below(table.contexts.into());
+            let mut now = table.places[place];
             let mut wanted = self.some_compressor_context(which);
-            let mut now = self.runner.compressor.places[place];
             for name in COMPRESSOR_FIELDS {
                 let value = compressor_field(&mut wanted, name).map_or(0, |field| field.get());
                 let old = compressor_field(&mut now, name).map_or(0, |field| field.get());
@@ -476,7 +480,7 @@ impl Generator {
     /// A sound live context as the flow's last packet might have left it, with counters at will.
     fn some_compressor_context(&mut self, which: usize) -> compressor::Context {
         let flow = &self.flows[which];
-        let repeats = usize::from(self.runner.compressor.repeats);
+        let repeats = usize::from(self.planned.runner.compressor.repeats);
         let prng = &mut self.prng;
         let mut due = |most: usize| {
             let choices = [0, 0, 0, 0, 1.min(most), most / 2, most];
@@ -537,7 +541,7 @@ impl Generator {
     /// Boundary values of every kind, values near the present one, and random ones.
     fn field_value(&mut self, of_decompressor: bool, name: &str, place: usize) -> u32 {
         let now = self.field_now(of_decompressor, name, place);
-        let repeats = u32::from(self.runner.compressor.repeats);
+        let repeats = u32::from(self.planned.runner.compressor.repeats);
         let small = [0, 1, 2, 3, repeats, repeats + 1, repeats + 2, 14, 15, 16];
         let bytes = [63, 64, 65, 127, 128, 255];
         let wide = [256, 16383, 32768, 49152, 65535];
@@ -586,22 +590,22 @@ impl Generator {
 
     fn field(&mut self, of_decompressor: bool, name: &str, place: usize) -> Option<Field<'_>> {
         if of_decompressor {
-            decompressor_table_field(&mut self.runner.decompressor, name, place)
+            decompressor_table_field(&mut self.planned.runner.decompressor, name, place)
         } else {
-            compressor_table_field(&mut self.runner.compressor, name, place)
+            compressor_table_field(&mut self.planned.runner.compressor, name, place)
         }
     }
 
     /// Whether the table is sound once the value is written.
     fn sound_after(&self, of_decompressor: bool, name: &str, place: usize, value: u32) -> bool {
         if of_decompressor {
-            let mut table = self.runner.decompressor.clone();
+            let mut table = self.planned.runner.decompressor.clone();
             if let Some(field) = decompressor_table_field(&mut table, name, place) {
                 field.set(value);
             }
             decompressor::sound(Mutant::None, &table)
         } else {
-            let mut table = self.runner.compressor.clone();
+            let mut table = self.planned.runner.compressor.clone();
             if let Some(field) = compressor_table_field(&mut table, name, place) {
                 field.set(value);
             }

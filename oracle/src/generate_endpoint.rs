@@ -7,18 +7,17 @@ use crate::generate::{
     exact_length, forged_full_header, hex, odd_packet, report_now, room, something_broken,
     LINK_TYPES, OUT_OF_RANGE,
 };
+use crate::planned::{Planned, Planner};
 use crate::prng::Prng;
-use crate::script::{Runner, MOST_BYTES};
+use crate::script::MOST_BYTES;
 use crate::way::{place_of_arrival, Way};
 use crate::{compressor, CONTEXT_STATE, PLAIN};
-use std::collections::VecDeque;
 
 pub struct Generator {
     prng: Prng,
-    runner: Runner,
+    planned: Planned,
     /// The endpoint at the other end of the link.
     peer: Endpoint,
-    lines: VecDeque<String>,
     calls_left: usize,
     /// Percent of packets with a change, and of calls that are hostile or odd.
     change: usize,
@@ -34,9 +33,8 @@ impl Generator {
     pub fn new(seed: u64) -> Self {
         let mut prng = Prng::new(seed);
         Generator {
-            runner: Runner::default(),
+            planned: Planned::default(),
             peer: Endpoint::unopened(),
-            lines: VecDeque::new(),
             // The first stretch runs before any opening: the only place where calls are refused 1.
             calls_left: 60,
             change: 10,
@@ -48,23 +46,11 @@ impl Generator {
             prng,
         }
     }
+}
 
-    pub fn next_line(&mut self) -> String {
-        if self.lines.is_empty() {
-            self.plan();
-        }
-        let line = self.lines.pop_front().unwrap_or_default();
-        let mut answer = String::new();
-        self.runner.answer(&line, &mut answer);
-        line
-    }
-
-    fn push(&mut self, line: String) {
-        self.lines.push_back(line);
-    }
-
-    fn show_totals(&mut self) {
-        self.push("bt".to_string());
+impl Planner for Generator {
+    fn planned(&mut self) -> &mut Planned {
+        &mut self.planned
     }
 
     fn plan(&mut self) {
@@ -79,9 +65,15 @@ impl Generator {
             self.show_totals();
         }
     }
+}
+
+impl Generator {
+    fn show_totals(&mut self) {
+        self.push("bt".to_string());
+    }
 
     fn plan_call(&mut self) {
-        let broken = something_broken(&self.runner.endpoint.decompressor);
+        let broken = something_broken(&self.planned.runner.endpoint.decompressor);
         if self.prng.chance(1, 40) {
             self.plan_total();
         } else if broken && self.prng.chance(1, 20) {
@@ -166,7 +158,7 @@ impl Generator {
     /// Tries the send on a copy to know its exact length, and remembers what it gives out.
     fn plan_send(&mut self, packet: &[u8]) {
         let mut output = [0; MOST_BYTES];
-        let mut table = self.runner.endpoint.compressor.clone();
+        let mut table = self.planned.runner.endpoint.compressor.clone();
         let answer = compressor::send(&mut table, packet, &mut output);
         let room = room(&mut self.prng, answer.length);
         if answer.number == 0 && room >= answer.length {
@@ -196,7 +188,7 @@ impl Generator {
     /// The report goes to the peer, unless it is lost or finds too little room. Only now, with something
     /// broken, can a report be refused.
     fn plan_recovery(&mut self) {
-        let report = report_now(&self.runner.endpoint.decompressor);
+        let report = report_now(&self.planned.runner.endpoint.decompressor);
         if self.prng.chance(1, 4) {
             let room = self.prng.below(report.len());
             return self.push(format!("bp {room}"));
@@ -208,7 +200,7 @@ impl Generator {
     }
 
     fn exact(&self, link_type: u32, bytes: &[u8]) -> usize {
-        exact_length(&self.runner.endpoint.decompressor, link_type, bytes)
+        exact_length(&self.planned.runner.endpoint.decompressor, link_type, bytes)
     }
 
     fn plan_radio(&mut self, link_type: u32, bytes: &[u8]) {
@@ -223,7 +215,7 @@ impl Generator {
 
     /// Near their end, where they stop; one that has stopped shows nothing more and is set back.
     fn plan_total(&mut self) {
-        let totals = self.runner.endpoint.totals.in_order();
+        let totals = self.planned.runner.endpoint.totals.in_order();
         let stopped: Vec<usize> = (0..TOTALS)
             .filter(|&place| totals[place] == u32::MAX)
             .collect();
@@ -260,7 +252,7 @@ impl Generator {
             _ if self.back.clean => self.plan_arrival(),
             56..=61 => self.plan_own_packet(),
             62..=79 => {
-                let table = &self.runner.endpoint.decompressor;
+                let table = &self.planned.runner.endpoint.decompressor;
                 let (link_type, bytes) = forge::compressed(&mut self.prng, table);
                 self.plan_radio(link_type, &bytes);
             }
@@ -281,7 +273,7 @@ impl Generator {
 
     fn plan_forged_full_header(&mut self) {
         let flow = self.back.some_flow(&mut self.prng);
-        let table = &self.runner.endpoint.decompressor;
+        let table = &self.planned.runner.endpoint.decompressor;
         let bytes = forged_full_header(&mut self.prng, flow, table);
         self.plan_radio(1, &bytes);
     }
@@ -290,7 +282,7 @@ impl Generator {
     /// way.
     fn plan_request(&mut self) {
         let report = report_now(&self.peer.decompressor);
-        let contexts = self.runner.endpoint.compressor.contexts;
+        let contexts = self.planned.runner.endpoint.compressor.contexts;
         let prng = &mut self.prng;
         let bytes = match prng.below(8) {
             0 => forge::noise(prng),
@@ -307,7 +299,7 @@ impl Generator {
             0 => (self.prng.number() as u32).max(5),
             _ => self.prng.pick(&LINK_TYPES[5..]),
         };
-        let contexts = self.runner.endpoint.compressor.contexts;
+        let contexts = self.planned.runner.endpoint.compressor.contexts;
         let bytes = match self.prng.below(4) {
             0 => forge::noise(&mut self.prng),
             1 => self.some_link_packet().1,
@@ -318,7 +310,7 @@ impl Generator {
     }
 
     fn plan_report(&mut self) {
-        let exact = report_now(&self.runner.endpoint.decompressor).len();
+        let exact = report_now(&self.planned.runner.endpoint.decompressor).len();
         let room = room(&mut self.prng, exact);
         self.push(format!("bp {room}"));
     }
@@ -359,7 +351,7 @@ impl Generator {
     /// Openings inside a stretch: refused ones mostly, since they must leave everything alone. After an
     /// accepted one the peer goes on as it was, so both directions are out of step.
     fn plan_stray_opening(&mut self) {
-        let opened = self.runner.endpoint.compressor.contexts > 0;
+        let opened = self.planned.runner.endpoint.compressor.contexts > 0;
         let clean = self.out.clean || self.back.clean;
         let (n, k) = if opened && !clean && self.prng.chance(1, 10) {
             (self.prng.below(15) as u32, self.prng.between(1, 64) as u32)

@@ -11,15 +11,15 @@ use crate::generate::{
     OUT_OF_RANGE,
 };
 use crate::mutant::Mutant;
+use crate::planned::{Planned, Planner};
 use crate::prng::Prng;
 use crate::saved;
 use crate::script::{
-    decompressor_field, decompressor_table_field, Field, Runner, DECOMPRESSOR_FIELDS, MOST_BYTES,
+    decompressor_field, decompressor_table_field, Field, DECOMPRESSOR_FIELDS, MOST_BYTES,
     MOST_SAVED_BYTES,
 };
 use crate::way::{place_of_arrival, Way};
 use crate::{compressor, FULL_HEADER, PLACES};
-use std::collections::VecDeque;
 
 /// Longer files are handed over only now and then, so that scripts stay short.
 const LONG: usize = 1200;
@@ -28,8 +28,7 @@ const KEPT: usize = 8;
 
 pub struct Generator {
     prng: Prng,
-    runner: Runner,
-    lines: VecDeque<String>,
+    planned: Planned,
     calls_left: usize,
     /// Percent of packets with a change.
     change: usize,
@@ -46,8 +45,7 @@ impl Generator {
     pub fn new(seed: u64) -> Self {
         let mut prng = Prng::new(seed);
         let mut generator = Generator {
-            runner: Runner::default(),
-            lines: VecDeque::new(),
+            planned: Planned::default(),
             calls_left: 0,
             change: 10,
             way: Way::new(&mut prng, 0, false),
@@ -60,23 +58,11 @@ impl Generator {
         generator.plan_before_any_opening();
         generator
     }
+}
 
-    pub fn next_line(&mut self) -> String {
-        if self.lines.is_empty() {
-            self.plan();
-        }
-        let line = self.lines.pop_front().unwrap_or_default();
-        let mut answer = String::new();
-        self.runner.answer(&line, &mut answer);
-        line
-    }
-
-    fn push(&mut self, line: String) {
-        self.lines.push_back(line);
-    }
-
-    fn table(&self) -> &Table {
-        &self.runner.decompressor
+impl Planner for Generator {
+    fn planned(&mut self) -> &mut Planned {
+        &mut self.planned
     }
 
     fn plan(&mut self) {
@@ -84,15 +70,15 @@ impl Generator {
             return self.open_stretch();
         }
         self.calls_left -= 1;
-        if !is_sound(self.table()) {
+        if !is_sound(self.planned.table()) {
             return self.plan_whole_load();
         }
         // After a load of another table little would arrive.
-        let strange = self.table().contexts != self.runner.compressor.contexts;
+        let strange = self.planned.table().contexts != self.planned.runner.compressor.contexts;
         if strange && self.prng.chance(1, 4) {
             return self.plan_own_load();
         }
-        if something_broken(self.table()) && self.prng.chance(1, 16) {
+        if something_broken(self.planned.table()) && self.prng.chance(1, 16) {
             return self.plan_recovery();
         }
         match self.prng.below(100) {
@@ -111,7 +97,9 @@ impl Generator {
             _ => self.plan_arrival(),
         }
     }
+}
 
+impl Generator {
     // Openings
 
     /// Neither table is open: saves are refused, and loads are judged all the same.
@@ -186,7 +174,7 @@ impl Generator {
     fn plan_send(&mut self) {
         let packet = self.way.next_packet(&mut self.prng, self.change);
         let mut output = [0; MOST_BYTES];
-        let mut table = self.runner.compressor.clone();
+        let mut table = self.planned.runner.compressor.clone();
         let answer = compressor::send(&mut table, &packet, &mut output);
         let room = room(&mut self.prng, answer.length);
         if answer.number == 0 && room >= answer.length {
@@ -205,7 +193,7 @@ impl Generator {
     }
 
     fn plan_receive(&mut self, link_type: u32, bytes: &[u8]) {
-        let exact = exact_length(self.table(), link_type, bytes);
+        let exact = exact_length(self.planned.table(), link_type, bytes);
         let room = room(&mut self.prng, exact);
         let place = place_of_arrival(link_type, bytes);
         self.way.count(place, room < exact);
@@ -218,11 +206,11 @@ impl Generator {
         let (link_type, bytes) = match self.prng.below(12) {
             0..=4 => {
                 let flow = self.way.some_flow(&mut self.prng);
-                let table = &self.runner.decompressor;
+                let table = self.planned.table();
                 let bytes = forged_full_header(&mut self.prng, flow, table);
                 (FULL_HEADER, bytes)
             }
-            5..=9 => forge::compressed(&mut self.prng, &self.runner.decompressor),
+            5..=9 => forge::compressed(&mut self.prng, self.planned.table()),
             10 => {
                 let link_type = self.prng.pick(&LINK_TYPES);
                 (link_type, forge::noise(&mut self.prng))
@@ -235,7 +223,7 @@ impl Generator {
 
     /// The report, and mostly the request that it makes.
     fn plan_recovery(&mut self) {
-        let report = report_now(self.table());
+        let report = report_now(self.planned.table());
         self.plan_report();
         if self.prng.chance(4, 5) {
             self.push(format!("q {}", hex(&report)));
@@ -243,7 +231,7 @@ impl Generator {
     }
 
     fn plan_report(&mut self) {
-        let exact = report_now(self.table()).len();
+        let exact = report_now(self.planned.table()).len();
         let room = room(&mut self.prng, exact);
         self.push(format!("p {room}"));
     }
@@ -251,7 +239,7 @@ impl Generator {
     // Saves and loads
 
     fn plan_save(&mut self) {
-        let file = file_of(self.table());
+        let file = file_of(self.planned.table());
         let room = self.plan_save_of(&file);
         if room >= file.len() {
             keep(&mut self.prng, &mut self.fresh, file);
@@ -271,7 +259,7 @@ impl Generator {
             Some(file) if self.prng.bit() => file.clone(),
             _ if self.fresh.is_empty() || self.prng.chance(1, 3) => {
                 self.plan_save();
-                file_of(self.table())
+                file_of(self.planned.table())
             }
             _ => self.fresh[self.prng.below(self.fresh.len())].clone(),
         };
@@ -293,7 +281,7 @@ impl Generator {
     fn some_file(&mut self) -> Vec<u8> {
         for _ in 0..4 {
             let file = match self.prng.below(8) {
-                0 | 1 if is_sound(self.table()) => file_of(self.table()),
+                0 | 1 if is_sound(self.planned.table()) => file_of(self.planned.table()),
                 2 if !self.fresh.is_empty() => {
                     self.fresh[self.prng.below(self.fresh.len())].clone()
                 }
@@ -314,7 +302,7 @@ impl Generator {
 
     /// A load, and often calls that show what table there is now.
     fn plan_load(&mut self, file: &[u8]) {
-        let mut after = self.table().clone();
+        let mut after = self.planned.table().clone();
         saved::load(&mut after, file);
         self.push(format!("l {}", hex(file)));
         if self.prng.chance(2, 5) {
@@ -331,7 +319,7 @@ impl Generator {
     }
 
     fn plan_show(&mut self) {
-        let place = likely_place(&mut self.prng, &self.runner.decompressor);
+        let place = likely_place(&mut self.prng, self.planned.table());
         self.push(format!("dr {place}"));
     }
 
@@ -339,7 +327,7 @@ impl Generator {
 
     /// A whole context, filled or not, in one place.
     fn plan_whole_context(&mut self) {
-        let place = self.prng.below(self.table().contexts.into());
+        let place = self.prng.below(self.planned.table().contexts.into());
         let mut wanted = match self.prng.below(6) {
             0 => decompressor::Context::default(),
             1 => decompressor::Context {
@@ -348,8 +336,8 @@ impl Generator {
             },
             _ => files::some_filled_context(&mut self.prng),
         };
-        let mut now = self.table().places[place];
-        let mut after = self.table().clone();
+        let mut now = self.planned.table().places[place];
+        let mut after = self.planned.table().clone();
         after.places[place] = wanted;
         for name in DECOMPRESSOR_FIELDS {
             let value = decompressor_field(&mut wanted, name).map_or(0, |field| field.get());
@@ -377,11 +365,11 @@ impl Generator {
             0 => ("k", 0),
             1 => ("n", 0),
             _ => {
-                let place = likely_place(&mut self.prng, &self.runner.decompressor);
+                let place = likely_place(&mut self.prng, self.planned.table());
                 (self.prng.pick(&DECOMPRESSOR_FIELDS), place)
             }
         };
-        let mut after = self.table().clone();
+        let mut after = self.planned.table().clone();
         let Some(field) = decompressor_table_field(&mut after, name, place) else {
             return;
         };

@@ -10,14 +10,17 @@ pub mod files;
 pub mod flows;
 pub mod forge;
 pub mod generate;
+pub mod generate_checksums;
 pub mod generate_endpoint;
 pub mod generate_saves;
 pub mod header;
 pub mod mutant;
+pub mod planned;
 pub mod prng;
 pub mod refusal;
 pub mod saved;
 pub mod script;
+pub mod udp_checksum;
 mod way;
 
 /// Link types as numbers beside the bytes.

@@ -40,6 +40,29 @@ pub enum Mutant {
     RtpHeaderResetsIdDelta,
     RefusedRtpHeaderResetsDelta,
     SelectedFieldsResetDelta,
+    // UDP checksums judged over a gap: when, in which order, what a wrong one leaves, and how they are summed.
+    ChecksumNeverJudged,
+    ChecksumJudgedWithoutGap,
+    ChecksumJudgedFromThirdStep,
+    ChecksumJudgedInFullHeader,
+    ChecksumJudgedWhereBlank,
+    ChecksumBeforeGap,
+    ChecksumBeforeLength,
+    ChecksumAfterRoom,
+    WrongChecksumLeavesTable,
+    WrongChecksumTakesPacket,
+    WrongChecksumKeepsAdvance,
+    WrongChecksumNotCounted,
+    SumWithoutAddresses,
+    SumWithoutProtocol,
+    SumWithoutLength,
+    SumsCarriedChecksum,
+    SumsFixedHeadersOnly,
+    OddByteDropped,
+    OddByteLow,
+    SumZeroStaysZero,
+    CarriedZeroRight,
+    ZeroRightBesideAllOnes,
     // Routing and totals of an endpoint.
     ContextStateToDecompressor,
     HighTypesToCompressor,
@@ -73,7 +96,7 @@ pub enum Mutant {
 }
 
 impl Mutant {
-    pub const ALL: [Mutant; 60] = [
+    pub const ALL: [Mutant; 82] = [
         Mutant::RunNotCounted,
         Mutant::JumpAdopted,
         Mutant::SingleStep,
@@ -106,6 +129,28 @@ impl Mutant {
         Mutant::RtpHeaderResetsIdDelta,
         Mutant::RefusedRtpHeaderResetsDelta,
         Mutant::SelectedFieldsResetDelta,
+        Mutant::ChecksumNeverJudged,
+        Mutant::ChecksumJudgedWithoutGap,
+        Mutant::ChecksumJudgedFromThirdStep,
+        Mutant::ChecksumJudgedInFullHeader,
+        Mutant::ChecksumJudgedWhereBlank,
+        Mutant::ChecksumBeforeGap,
+        Mutant::ChecksumBeforeLength,
+        Mutant::ChecksumAfterRoom,
+        Mutant::WrongChecksumLeavesTable,
+        Mutant::WrongChecksumTakesPacket,
+        Mutant::WrongChecksumKeepsAdvance,
+        Mutant::WrongChecksumNotCounted,
+        Mutant::SumWithoutAddresses,
+        Mutant::SumWithoutProtocol,
+        Mutant::SumWithoutLength,
+        Mutant::SumsCarriedChecksum,
+        Mutant::SumsFixedHeadersOnly,
+        Mutant::OddByteDropped,
+        Mutant::OddByteLow,
+        Mutant::SumZeroStaysZero,
+        Mutant::CarriedZeroRight,
+        Mutant::ZeroRightBesideAllOnes,
         Mutant::ContextStateToDecompressor,
         Mutant::HighTypesToCompressor,
         Mutant::JudgesBothTables,
@@ -134,5 +179,17 @@ impl Mutant {
         Mutant::LoadTakesAnyTimestampDelta,
         Mutant::LoadJudgesCutHeader,
         Mutant::LoadRefusesOddPort,
+    ];
+
+    /// Sums that leave something out or add it in another way; their checksums are plausible and wrong.
+    pub const MISTAKEN_SUMS: [Mutant; 8] = [
+        Mutant::SumWithoutAddresses,
+        Mutant::SumWithoutProtocol,
+        Mutant::SumWithoutLength,
+        Mutant::SumsCarriedChecksum,
+        Mutant::SumsFixedHeadersOnly,
+        Mutant::OddByteDropped,
+        Mutant::OddByteLow,
+        Mutant::SumZeroStaysZero,
     ];
 }

@@ -13,6 +13,7 @@ pub enum Refusal {
     Gap = 9,
     RebuiltLength = 10,
     Room = 11,
+    UdpChecksum = 12,
 }
 
 impl Refusal {

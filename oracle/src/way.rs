@@ -1,6 +1,6 @@
 //! One direction of the link for generated scripts: flows that speak there, what is on its way, and losses.
 
-use crate::flows::{self, Flow};
+use crate::flows::Flow;
 use crate::generate::place_of;
 use crate::prng::Prng;
 use crate::CONTEXT_STATE;
@@ -13,7 +13,9 @@ pub(crate) struct Way {
     /// Longest run of losses, and percent of arrivals that start one.
     longest_loss: usize,
     loss: usize,
-    /// Nothing forged, and never more than N lost in a row on a context.
+    /// Percent of UDP checksums that are wrong.
+    pub(crate) wrong: usize,
+    /// Nothing forged, and never more than N lost in a row on a context, nor any where checksums are wrong.
     pub(crate) clean: bool,
     /// Packets lost since the last one that was not, per context number.
     lost_in_a_row: [usize; 256],
@@ -33,6 +35,11 @@ impl Way {
             in_flight: VecDeque::new(),
             longest_loss,
             loss: prng.pick(&[5, 15, 30]),
+            wrong: if clean && longest_loss > 0 {
+                0
+            } else {
+                prng.pick(&[0, 3, 10, 25])
+            },
             clean,
             lost_in_a_row: [0; 256],
             repeats,
@@ -42,9 +49,7 @@ impl Way {
     /// The next packet that goes in at this way's beginning.
     pub(crate) fn next_packet(&mut self, prng: &mut Prng, change: usize) -> Vec<u8> {
         let which = prng.below(self.flows.len());
-        let header = self.flows[which].next(prng, change);
-        let payload = flows::payload(prng, &header);
-        flows::packet(&header, &payload)
+        self.flows[which].next_packet(prng, change, self.wrong)
     }
 
     pub(crate) fn some_flow(&self, prng: &mut Prng) -> &Flow {
@@ -68,7 +73,8 @@ impl Way {
     }
 
     pub(crate) fn may_lose(&self, place: Option<u8>) -> bool {
-        let few = |place: u8| self.lost_in_a_row[usize::from(place)] < self.repeats;
+        let few =
+            |place: u8| self.wrong == 0 && self.lost_in_a_row[usize::from(place)] < self.repeats;
         !self.clean || place.is_none_or(few)
     }
 

@@ -1,9 +1,12 @@
 //! Benchmark of the second program (`../../oracle`), to lay beside that of the main program.
 //!
-//!     second             one round of each configuration: what was sent, and whether it came back
-//!     second time        nine rounds of each: the same, and picoseconds per packet
-//!     second sums        one round of ones' complement sums of each size: the last result
-//!     second sums time   nine rounds of each: the same, and picoseconds per sum
+//!     second               one round of each configuration: what was sent, and if it came back
+//!     second time          nine rounds of each: the same, and picoseconds per packet
+//!     second sums          one round of ones' complement sums of each size: the last result
+//!     second sums time     nine rounds of each: the same, and picoseconds per sum
+//!     second judged        one round of arrivals over a gap of each size, without a UDP checksum
+//!                          and with one, which is judged: how many were accepted, the last's sum
+//!     second judged time   nine rounds of each: the same, and picoseconds per arrival
 //!
 //! Why it is written this way:
 //! - The counts and the byte sum of a line show that two programs did the same work; without that
@@ -14,6 +17,7 @@
 //! - The copy is a yardstick for the machine: a packet moved and nothing done to it.
 
 mod figures;
+mod judged;
 mod packets;
 mod round;
 mod sums;
@@ -27,29 +31,45 @@ const CONFIGURATIONS: [Configuration; 3] = [
     Configuration { streams: 1, k: 1 },
 ];
 
+/// What the first argument asks for.
+enum Work {
+    Rounds,
+    Sums,
+    Judged,
+}
+
 fn main() -> ExitCode {
     let arguments: Vec<_> = std::env::args_os().skip(1).collect();
-    let (of_sums, rest) = match arguments.as_slice() {
-        [word, rest @ ..] if word == "sums" => (true, rest),
-        all => (false, all),
+    let (work, rest) = match arguments.as_slice() {
+        [word, rest @ ..] if word == "sums" => (Work::Sums, rest),
+        [word, rest @ ..] if word == "judged" => (Work::Judged, rest),
+        all => (Work::Rounds, all),
     };
     let timed = match rest {
         [] => false,
         [word] if word == "time" => true,
         _ => {
             eprintln!(
-                "second: the only arguments are `sums`, `time`, or `sums time`, or none at all"
+                "second: the only arguments are `sums` or `judged` or neither, then `time` or not"
             );
             return ExitCode::from(2);
         }
     };
-    if of_sums {
-        for size in &sums::SIZES {
-            println!("{}", sums::line(size, timed));
+    match work {
+        Work::Rounds => {
+            for configuration in &CONFIGURATIONS {
+                println!("{}", figures::line(configuration, timed));
+            }
         }
-    } else {
-        for configuration in &CONFIGURATIONS {
-            println!("{}", figures::line(configuration, timed));
+        Work::Sums => {
+            for size in &sums::SIZES {
+                println!("{}", sums::line(size, timed));
+            }
+        }
+        Work::Judged => {
+            for case in &judged::CASES {
+                println!("{}", judged::line(case, timed));
+            }
         }
     }
     ExitCode::SUCCESS

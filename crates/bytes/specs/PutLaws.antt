@@ -7,8 +7,8 @@ use mathlib.Core.List.{List, [], _∷_, _++_, append-nil}
 use native.Mathlib.Nat.{add-zero, zero-add}
 use native.Mathlib.Numerals.{add-one}
 use native.Mathlib.Omega.{arith}
-use lib.ListN.{length, getD, take, length-append, drop-of-length-le}
-use lib.Seq.{sets, sets-eq, length-sets, take-suc}
+use lib.ListN.{length, getD, take, drop, length-append, drop-of-length-le}
+use lib.Seq.{sets, sets-eq, length-sets, take-suc, take-append-seam}
 use Rattle.codes.specs.Bytes.{AllBytes, none, bigEndian}
 use Rattle.codes.specs.BytesLaws.{allBytes-append, allBytes-bigEndian}
 use Rattle.bytes.specs.Put.{Wrote, fronted, optional, words}
@@ -41,6 +41,12 @@ wrote-front {l₀} {l₁} {r} {bs} w h = w .holds ∙ sets-front bs l₀ h
 pub wrote-whole : {l₀ l₁ : List ℕ} {r : ℕ} {bs : List ℕ} → Wrote l₀ l₁ 0 r bs → length bs ≡ length l₀ → l₁ ≡ bs
 wrote-whole {l₀} {l₁} {r} {bs} w e =
     wrote-front w (omega arith) ∙ rw (drop-of-length-le l₀ {i = length bs} (omega arith), append-nil)
+
+-- a run from the front, taken out again
+pub wrote-taken : {l₀ l₁ : List ℕ} {r : ℕ} {bs : List ℕ} → Wrote l₀ l₁ 0 r bs → length bs ≤ length l₀ → take r l₁ ≡ bs
+wrote-taken {l₀} {l₁} {r} {bs} w h =
+    let e : r ≡ length bs = omega (arith, w .ends) in
+    rw (e, wrote-front w h) (take-append-seam bs (drop (length bs) l₀))
 
 pub wrote-nothing : {l : List ℕ} {at : ℕ} → Wrote l l at at []
 wrote-nothing {l} {at} = record { ends = sym (add-zero at); holds = refl }

@@ -1,5 +1,5 @@
 -- Iarwennol. The ones' complement sum of 16-bit words, the carry added again after every addition (rule 5.2).
--- Used by the IP header's checksum (headers); made to serve the UDP checksum too.
+-- Used by the checksums of IP and UDP (headers).
 use Prim.Native.Nat.{ℕ, zero, suc, _+_, _-_, _*_, _/_, _%_, _<_}
 use mathlib.Core.List.{List, [], _∷_}
 

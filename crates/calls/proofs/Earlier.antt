@@ -9,12 +9,12 @@ use native.Mathlib.Omega.{arith}
 use native.Mathlib.Decide.{decLe}
 use lib.Dec.{ltb}
 use lib.ListN.{length, getD, take, drop, length-append, take-append-drop, List·getD-append}
-use lib.Seq.{slice, length-take-le, getD-take}
+use lib.Seq.{slice, length-take-le, getD-take, take-append-le}
 use borrow.Author.Tests.{ltb-false, le-ltb, lt-ltb, ne-eqb, eq-eqb}
 use Rattle.calls.specs.Calls.{Call, sendCall, requestCall, arrivalCall, saveCall, loadCall, otherCall, Sent, World, Ends}
-use Rattle.calls.specs.Calls.{isOn, has, lost, Bounded, losses, logged, packetAt, step, final, Always, Proper, Allowed}
-use Rattle.calls.specs.Calls.{AtArrival, Exact, fresh, Faithful}
-use Rattle.calls.specs.Earlier.{Arrival, arrivals, lostIn, marks, Lawful, ExactIn, Earlier}
+use Rattle.calls.specs.Calls.{isOn, has, lost, Bounded, Gap, losses, logged, packetAt, linkAt, step, final, Always, Proper}
+use Rattle.calls.specs.Calls.{Allowed, AtArrival, Exact, fresh, Faithful}
+use Rattle.calls.specs.Earlier.{Arrival, arrivals, lostIn, marks, Lawful, FitAt, FitIn, ExactIn, Earlier}
 use Rattle.calls.proofs.Marks.{bounded-front, cond-front, line-before, line-after, line-here}
 
 module _ {P L B Q F C D SA RA : Type 0} (ε : Ends P L B Q F C D SA RA) where
@@ -141,6 +141,15 @@ module _ {P L B Q F C D SA RA : Type 0} (ε : Ends P L B Q F C D SA RA) where
           ∙ append-assoc (take i (w .log)) (drop i (w .log)) more)
           ∙ marks-append c 0 i (take i (w .log)) (drop i (w .log) ++ more) (omega arith)) h))
 
+      fit-now : (c : ℕ) (more : List (Sent P L)) → FitAt ε c all (w .log ++ more) i → isOn (ε .context (linkAt ε w i)) c ≡ true →
+          Gap (losses ε c (lost (w .line)) 0 (slice 0 i (w .log))) → ε .Fit (packetAt ε w i)
+      fit-now c more f on gap =
+          let e = List·getD-append (w .log) more (ε .nothing) i inside in
+          let t = take-append-le i (w .log) more (omega arith) in
+          subst (λ (x : Sent P L). ε .Fit (x .orig)) e
+          (f (subst (λ (x : Sent P L). isOn (ε .context (x .link)) c ≡ true) (sym e) on)
+          (subst (λ (l : List (Sent P L)). Gap (marks ε c all 0 l)) (sym t) (subst Gap (sym (front c)) gap)))
+
     alike-send : (w : World P L F C D) (p : P) (b : B) (xs : List (Call P B Q D)) → Alike w (sendCall p b ∷ xs) →
         Alike (step ε w (sendCall p b)) xs
     alike-send w p b xs a = record {
@@ -165,32 +174,35 @@ module _ {P L B Q F C D SA RA : Type 0} (ε : Ends P L B Q F C D SA RA) where
     alike-other w xs a = record { past = a .past; rest = a .rest; below = a .below; most = a .most }
 
     -- the premises of Calls
-    module _ (n c : ℕ) (every : (p : P) → ε .Fit p) where
+    module _ (n c : ℕ) where
       allowed-arrival : (w : World P L F C D) (i : ℕ) (b : B) (xs : List (Call P B Q D)) → Alike w (arrivalCall i b ∷ xs) →
           w .next ≤ i → i < length (w .log) →
-          Bounded n (marks ε c all 0 ((final ε w (arrivalCall i b ∷ xs)) .log)) → Proper ε n 0 c w i
-      allowed-arrival w i b xs a order inside h =
+          Bounded n (marks ε c all 0 ((final ε w (arrivalCall i b ∷ xs)) .log)) →
+          FitAt ε c all ((final ε w (arrivalCall i b ∷ xs)) .log) i → Proper ε n 0 c w i
+      allowed-arrival w i b xs a order inside h f =
           let g = grows (arrivalCall i b ∷ xs) w in
           record {
             sent = inside;
             order = order;
             bounded = bounded-now w i b xs a order inside n c (g .0) (rw (g .1) at h);
-            fit = λ on gap. every (packetAt ε w i);
+            fit = fit-now w i b xs a order inside c (g .0) (rw (g .1) at f);
           }
 
       allowed-all : (xs : List (Call P B Q D)) (w : World P L F C D) → Lawful ε w (w .next) xs → Alike w xs →
-          Bounded n (marks ε c all 0 ((final ε w xs) .log)) → Always ε (Allowed ε n 0 c) w xs
-      allowed-all [] w law a h = tt
-      allowed-all (sendCall p b ∷ xs) w law a h = (tt, allowed-all xs (step ε w (sendCall p b)) law (alike-send w p b xs a) h)
-      allowed-all (requestCall q ∷ xs) w law a h = (tt, allowed-all xs (step ε w (requestCall q)) law (alike-request w q xs a) h)
-      allowed-all (arrivalCall i b ∷ xs) w law a h = (
-        allowed-arrival w i b xs a (law .0) (law .1) h,
+          Bounded n (marks ε c all 0 ((final ε w xs) .log)) → FitIn ε c all ((final ε w xs) .log) (arrivals ε xs) →
+          Always ε (Allowed ε n 0 c) w xs
+      allowed-all [] w law a h f = tt
+      allowed-all (sendCall p b ∷ xs) w law a h f = (tt, allowed-all xs (step ε w (sendCall p b)) law (alike-send w p b xs a) h f)
+      allowed-all (requestCall q ∷ xs) w law a h f =
+          (tt, allowed-all xs (step ε w (requestCall q)) law (alike-request w q xs a) h f)
+      allowed-all (arrivalCall i b ∷ xs) w law a h f = (
+        allowed-arrival w i b xs a (law .0) (law .1) h (f .0),
         allowed-all xs (step ε w (arrivalCall i b)) (law .2)
-            (alike-arrival w i b xs a (law .0) (law .1)) h,
+            (alike-arrival w i b xs a (law .0) (law .1)) h (f .1),
       )
-      allowed-all (saveCall b ∷ xs) w law a h = absurd law
-      allowed-all (loadCall i d ∷ xs) w law a h = absurd law
-      allowed-all (otherCall ∷ xs) w law a h = (tt, allowed-all xs w law (alike-other w xs a) h)
+      allowed-all (saveCall b ∷ xs) w law a h f = absurd law
+      allowed-all (loadCall i d ∷ xs) w law a h f = absurd law
+      allowed-all (otherCall ∷ xs) w law a h f = (tt, allowed-all xs w law (alike-other w xs a) h f)
 
     -- an arrival that is not lost has room
     exact-all : (xs : List (Call P B Q D)) (w : World P L F C D) → Lawful ε w (w .next) xs → Alike w xs →
@@ -206,18 +218,19 @@ module _ {P L B Q F C D SA RA : Type 0} (ε : Ends P L B Q F C D SA RA) where
     exact-all (loadCall i d ∷ xs) w law a h = absurd law
     exact-all (otherCall ∷ xs) w law a h = exact-all xs w law (alike-other w xs a) (h .1)
 
-  -- where every packet may come after a gap: the premises of Earlier give those of Calls, and the claim of Calls that of Earlier
-  module _ (n : ℕ) (s : C) (v : D) (every : (p : P) → ε .Fit p) where
+  -- the premises of Earlier give those of Calls, and the claim of Calls that of Earlier
+  module _ (n : ℕ) (s : C) (v : D) where
     alike-fresh : (xs : List (Call P B Q D)) → Alike (arrivals ε xs) (fresh ε s v) xs
     alike-fresh xs =
         record { past = λ k h. absurd (omega arith); rest = λ k len h. refl; below = λ k h. refl; most = omega arith }
 
     pub earlier-allowed : (xs : List (Call P B Q D)) → Lawful ε (fresh ε s v) 0 xs →
         ((c : ℕ) → Bounded n (marks ε c (arrivals ε xs) 0 ((final ε (fresh ε s v) xs) .log))) →
+        ((c : ℕ) → FitIn ε c (arrivals ε xs) ((final ε (fresh ε s v) xs) .log) (arrivals ε xs)) →
         (c : ℕ) → Always ε (Allowed ε n 0 c) (fresh ε s v) xs
-    earlier-allowed xs law bounded c =
-        allowed-all (arrivals ε xs) n c every xs (fresh ε s v) law (alike-fresh xs) (bounded c)
+    earlier-allowed xs law bounded fits c =
+        allowed-all (arrivals ε xs) n c xs (fresh ε s v) law (alike-fresh xs) (bounded c) (fits c)
 
     pub earlier : Faithful ε n s v → Earlier ε n s v
-    earlier claim xs law bounded =
-        exact-all (arrivals ε xs) xs (fresh ε s v) law (alike-fresh xs) (claim xs (earlier-allowed xs law bounded))
+    earlier claim xs law bounded fits =
+        exact-all (arrivals ε xs) xs (fresh ε s v) law (alike-fresh xs) (claim xs (earlier-allowed xs law bounded fits))

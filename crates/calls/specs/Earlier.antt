@@ -1,14 +1,14 @@
--- Iarwennol. The claim for lists without saves and loads, in the words of rules 10.2 to 10.5: what is lost is found by going
--- through the list's arrivals. The claim of Calls implies it (proofs/Earlier.antt).
+-- Iarwennol. The claim for lists without saves and loads, in the words of rules 10.2 to 10.5 and 10.9: what is lost is found by
+-- going through the list's arrivals. The claim of Calls implies it (proofs/Earlier.antt).
 -- Used by crtp, whose statement over bytes has these words.
 use mathlib.Core.Path.{_≡_}
 use mathlib.Core.Bool.{Bool, true, false, cond}
 use mathlib.Core.List.{List, [], _∷_}
 use Prim.Native.Nat.{ℕ, suc, _≤_, _<_}
 use lib.Dec.{ltb, eqb}
-use lib.ListN.{length}
+use lib.ListN.{length, getD, take}
 use Rattle.calls.specs.Calls.{Call, sendCall, requestCall, arrivalCall, saveCall, loadCall, otherCall, Sent, World, Ends}
-use Rattle.calls.specs.Calls.{isOn, Bounded, packetAt, arrived, step, final, fresh}
+use Rattle.calls.specs.Calls.{isOn, Bounded, Gap, packetAt, arrived, step, final, fresh}
 
 -- an arrival: of the index-th packet given out, with the output handed over
 pub record Arrival (B : Type 0) : Type 0 where
@@ -48,6 +48,17 @@ module _ {P L B Q F C D SA RA : Type 0} (ε : Ends P L B Q F C D SA RA) where
   Lawful w m (loadCall i d ∷ xs) = ⊥
   Lawful w m (otherCall ∷ xs) = Lawful w m xs
 
+  -- Rule 10.9: where the i-th packet arrives right after a gap on context c, it is fit for that; all: the arrivals of the list,
+  -- log: all that was given out. And the same of some arrivals
+  abbrev pub FitAt : (c : ℕ) → (all : List (Arrival B)) → (log : List (Sent P L)) → (i : ℕ) → Type 0
+  FitAt c all log i =
+      isOn (ε .context ((getD log i (ε .nothing)) .link)) c ≡ true → Gap (marks c all 0 (take i log)) →
+      ε .Fit ((getD log i (ε .nothing)) .orig)
+
+  abbrev pub FitIn : (c : ℕ) → (all : List (Arrival B)) → (log : List (Sent P L)) → List (Arrival B) → Type 0
+  FitIn c all log [] = Unit {0}
+  FitIn c all log (a ∷ ar) = FitAt c all log (a .index) × FitIn c all log ar
+
   -- rule 10.5: each arrival that is not lost is right; ar: all the arrivals of the list
   abbrev pub ExactIn : List (Arrival B) → World P L F C D → List (Call P B Q D) → Type 0
   ExactIn ar w [] = Unit {0}
@@ -60,9 +71,10 @@ module _ {P L B Q F C D SA RA : Type 0} (ε : Ends P L B Q F C D SA RA) where
   ExactIn ar w (loadCall i d ∷ xs) = ExactIn ar (step ε w (loadCall i d)) xs
   ExactIn ar w (otherCall ∷ xs) = ExactIn ar w xs
 
-  -- rules 10.2 to 10.5: the claim, from two tables on
+  -- rules 10.2 to 10.5 and 10.9: the claim, from two tables on
   abbrev pub Earlier : ℕ → C → D → Type 0
   Earlier n s v = (xs : List (Call P B Q D)) →
       Lawful (fresh ε s v) 0 xs →
       ((c : ℕ) → Bounded n (marks c (arrivals xs) 0 ((final ε (fresh ε s v) xs) .log))) →
+      ((c : ℕ) → FitIn c (arrivals xs) ((final ε (fresh ε s v) xs) .log) (arrivals xs)) →
       ExactIn (arrivals xs) (fresh ε s v) xs

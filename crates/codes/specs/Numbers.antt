@@ -34,3 +34,6 @@ tooLong = 10
 
 abbrev pub noRoom : ℕ
 noRoom = 11
+
+abbrev pub disproved : ℕ
+disproved = 12

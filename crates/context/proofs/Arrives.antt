@@ -85,6 +85,11 @@ pub filled-exact : (h : Header) (l : Link) → rebuilt (filled h l) (h .checksum
 unfolding rebuilt filled
 filled-exact h l = fields-back h
 
+-- a packet without a checksum leaves a context that carries none
+pub filled-blank : (h : Header) (l : Link) → h .checksum ≡ 0 → filled h l .carried ≡ false
+unfolding filled
+filled-blank h l z = rw z
+
 close-now : (n g : ℕ) (f : Bool) (h : Header) (c : CompressorContext) (d : Deltas) → h .flow ≡ c .flow → c .link .sequence < 16 →
     d ≡ deltasAfter (c .deltas) (judged h c) → (1 ≤ c .due .full - 1 → Running (moved n h c (judged h c))) →
     Close n 0 (standing (c .link .sequence) g f h d) (moved n h c (judged h c))
@@ -106,7 +111,7 @@ close-now n g f h c d flow small e run =
 
 ---- A full header: what it resets to is what the decompressor sets
 
-module _ (n : ℕ) (v : DecompressorContext) (h : Header) (c : CompressorContext) (fits : HeaderInRange h) (held : Held c)
+module _ (n j : ℕ) (v : DecompressorContext) (h : Header) (c : CompressorContext) (fits : HeaderInRange h) (held : Held c)
     (flow : h .flow ≡ c .flow) where
   deltas-full : 1 ≤ c .due .full → Running c → resetDeltas ≡ deltasAfter (c .deltas) (judged h c)
   unfolding deltasAfter judged
@@ -125,17 +130,19 @@ module _ (n : ℕ) (v : DecompressorContext) (h : Header) (c : CompressorContext
   not-full : (k : ℕ) → k ≡ fullHeader → isFull k ≡ false → ⊥
   not-full k e f = true≢false (sym (ap isFull e) ∙ f)
 
-  full-arrives : 1 ≤ c .due .full → Running c → Arrives n v h (sentFrom n h c)
+  full-arrives : 1 ≤ c .due .full → Running c → Arrives n j v h (sentFrom n h c)
   unfolding sentWith partsOf
   full-arrives f r =
       let any = anyDue (dueNow (c .due) (judged h c)) in
       record {
         gap = 1;
+        near = omega arith;
         after = filled h (c .link);
         accepts = ap (λ (k : ℕ). received k n h (c .link) (sentFrom n h c .parts) v) (kind-full f any);
         exact = filled-exact h (c .link);
         live = λ e. absurd (not-full _ (kind-full f any) e);
         carries = λ e. absurd (not-full _ (kind-full f any) e);
+        blank = filled-blank h (c .link);
         keeps = record { few = omega arith; held = moved-held n h c fits held; close = λ u k. close-full f r };
       }
 
@@ -230,12 +237,13 @@ module _ (n j : ℕ) (v : DecompressorContext) (h : Header) (c : CompressorConte
   close-part z = close-now n (v .link .generation) (v .filled) h c (deltasAfter (c .deltas) (judged h c)) flow (held .link) refl
       (λ k. absurd (omega arith))
 
-  part-arrives : n ≤ 14 → c .due .full ≡ 0 → Arrives n v h (sentFrom n h c)
+  part-arrives : n ≤ 14 → c .due .full ≡ 0 → Arrives n j v h (sentFrom n h c)
   unfolding sentWith partsOf moved
   part-arrives most z =
       let any = anyDue (dueNow (c .due) (judged h c)) in
       record {
         gap = suc j;
+        near = omega arith;
         after = standing (c .link .sequence) (v .link .generation) (v .filled) h (deltasAfter (c .deltas) (judged h c));
         accepts =
             ap (λ (k : ℕ). received k n h (c .link) (sentFrom n h c .parts) v) (kind-part z any)
@@ -245,17 +253,18 @@ module _ (n j : ℕ) (v : DecompressorContext) (h : Header) (c : CompressorConte
         exact = standing-exact (c .link .sequence) (v .link .generation) (v .filled) h (deltasAfter (c .deltas) (judged h c));
         live = λ e. m .listening .status;
         carries = λ e. m .constants .carried ∙ ap not (sym (g .blank));
+        blank = λ z. rw z;
         keeps = record { few = omega arith; held = moved-held n h c fits held; close = λ u k. close-part z };
       }
 
 ---- stepOf
 
 -- while full headers are due, whatever the decompressor has there
-full-step : (n : ℕ) (v : DecompressorContext) (h : Header) (s : CompressorContext) → HeaderInRange h → Held s → h .flow ≡ s .flow →
-    1 ≤ begun n h s .due .full → Arrives n v h (stepOf n h s)
+full-step : (n j : ℕ) (v : DecompressorContext) (h : Header) (s : CompressorContext) → HeaderInRange h → Held s →
+    h .flow ≡ s .flow → 1 ≤ begun n h s .due .full → Arrives n j v h (stepOf n h s)
 unfolding stepOf
-full-step n v h s fits held flow f =
-    full-arrives n v h (reset (begun n h s)) fits (ready-held n h s held) (flow ∙ sym (ready-kept n h s .flow))
+full-step n j v h s fits held flow f =
+    full-arrives n j v h (reset (begun n h s)) fits (ready-held n h s held) (flow ∙ sym (ready-kept n h s .flow))
     (rw (reset-full (begun n h s)) f) (reset-running (begun n h s) f)
 
 full-kind : (due any : Bool) → cond due fullHeader (cond any compressedUdp compressedRtp) ≡ fullHeader → due ≡ true
@@ -271,36 +280,36 @@ full-due n h s e =
     (full-kind (ltb 0 (c .due .full)) (anyDue (dueNow (c .due) (judged h c))) e))
 
 -- a full header arrives, whatever the decompressor has there
-pub related-full : (n : ℕ) (v : DecompressorContext) (h : Header) (s : CompressorContext) → HeaderInRange h → Held s
+pub related-full : (n j : ℕ) (v : DecompressorContext) (h : Header) (s : CompressorContext) → HeaderInRange h → Held s
     → h .flow ≡ s .flow →
-    stepOf n h s .kind ≡ fullHeader → Arrives n v h (stepOf n h s)
-related-full n v h s fits held flow e = full-step n v h s fits held flow (full-due n h s e)
+    stepOf n h s .kind ≡ fullHeader → Arrives n j v h (stepOf n h s)
+related-full n j v h s fits held flow e = full-step n j v h s fits held flow (full-due n h s e)
 
 module _ (n j : ℕ) (v : DecompressorContext) (h : Header) (s : CompressorContext) (fits : HeaderInRange h)
     (flow : h .flow ≡ s .flow) (r : Related n j v s) where
-  arrives-part : s .status ≡ usage.Live → n ≤ 14 → sameConstants h s ≡ true → s .due .full ≡ 0 → Arrives n v h (stepOf n h s)
+  arrives-part : s .status ≡ usage.Live → n ≤ 14 → sameConstants h s ≡ true → s .due .full ≡ 0 → Arrives n j v h (stepOf n h s)
   unfolding stepOf
   arrives-part u most e z =
       let m : Close n j v s = r .close u (omega (arith, r .few)) in
       rw (ready-same n h s e (m .running)) (part-arrives n j v h s fits (r .held) (r .few) flow (same-constants h s e) m most z)
 
-  arrives-changed : sameConstants h s ≡ false → Arrives n v h (stepOf n h s)
-  arrives-changed e = full-step n v h s fits (r .held) flow (rw (begun-started n h s e) (omega (arith, started-full n s)))
+  arrives-changed : sameConstants h s ≡ false → Arrives n j v h (stepOf n h s)
+  arrives-changed e = full-step n j v h s fits (r .held) flow (rw (begun-started n h s e) (omega (arith, started-full n s)))
 
-  arrives-due : sameConstants h s ≡ true → ltb 0 (s .due .full) ≡ true → Arrives n v h (stepOf n h s)
-  arrives-due e d = full-step n v h s fits (r .held) flow (rw (begun-same n h s e) (ltb-true 0 (s .due .full) d))
+  arrives-due : sameConstants h s ≡ true → ltb 0 (s .due .full) ≡ true → Arrives n j v h (stepOf n h s)
+  arrives-due e d = full-step n j v h s fits (r .held) flow (rw (begun-same n h s e) (ltb-true 0 (s .due .full) d))
 
   none-due : ltb 0 (s .due .full) ≡ false → s .due .full ≡ 0
   none-due d = let k = ltb-false 0 (s .due .full) d in omega arith
 
   arrives-by : s .status ≡ usage.Live → n ≤ 14 → (same due : Bool) → sameConstants h s ≡ same → ltb 0 (s .due .full) ≡ due
-      → Arrives n v h (stepOf n h s)
+      → Arrives n j v h (stepOf n h s)
   arrives-by u most false due e d = arrives-changed e
   arrives-by u most true true e d = arrives-due e d
   arrives-by u most true false e d = arrives-part u most e (none-due d)
 
   -- a packet after the context's first arrives
-  pub related-arrives : s .status ≡ usage.Live → n ≤ 14 → Arrives n v h (stepOf n h s)
+  pub related-arrives : s .status ≡ usage.Live → n ≤ 14 → Arrives n j v h (stepOf n h s)
   related-arrives u most = arrives-by u most (sameConstants h s) (ltb 0 (s .due .full)) refl refl
 
 -- a packet leaves status and flow of its context

@@ -22,7 +22,7 @@ use Rattle.context.specs.declared.decompressor.DecompressorContext.{Deco
 use Rattle.context.proofs.Tests.{cond-both}
 use Rattle.context.proofs.FieldLaws.{near-now}
 use Rattle.context.proofs.Begun.{started-full, started-held}
-use Rattle.context.proofs.Arrives.{filled-exact}
+use Rattle.context.proofs.Arrives.{filled-exact, filled-blank}
 
 ---- first
 
@@ -67,16 +67,18 @@ first-close n h l small = record {
 }
 
 -- a context's first packet arrives, whatever the decompressor has there
-pub related-first-arrives : (n : ℕ) (v : DecompressorContext) (h : Header) (l : Link) → HeaderInRange h → l .sequence < 16
-    → Arrives n v h (firstStep n h l)
+pub related-first-arrives : (n j : ℕ) (v : DecompressorContext) (h : Header) (l : Link) → HeaderInRange h → l .sequence < 16
+    → Arrives n j v h (firstStep n h l)
 unfolding firstStep partsOf
-related-first-arrives n v h l f small = record {
+related-first-arrives n j v h l f small = record {
   gap = 1;
+  near = omega arith;
   after = filled h l;
   accepts = refl;
   exact = filled-exact h l;
   live = λ e. absurd (true≢false e);
   carries = λ e. absurd (true≢false e);
+  blank = filled-blank h l;
   keeps = record { few = omega arith; held = first-held n h l f; close = λ u k. first-close n h l small };
 }
 

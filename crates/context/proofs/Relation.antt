@@ -1,7 +1,7 @@
 -- Iarwennol. The relation between the two ends' contexts.
 -- What holds when j packets on a context were lost since the last one accepted; n is the repeats.
 -- Used by the laws of each step, and by robustness over lists of calls (rule 10).
-use Prim.Native.Nat.{ℕ, _+_, _%_, _^_, _≤_, _<_}
+use Prim.Native.Nat.{ℕ, suc, _+_, _%_, _^_, _≤_, _<_}
 use mathlib.Core.Path.{_≡_}
 use mathlib.Core.Bool.{Bool, false, cond}
 use lib.Dec.{eqb}
@@ -126,13 +126,15 @@ received k n h l p v = cond (isFull k) (acceptedAs 1 (filled h l)) (applied n (l
 abbrev pub receivedOf : (n : ℕ) → Header → Going → DecompressorContext → Effect
 receivedOf n h a v = received (a .kind) n h (a .link) (a .parts) v
 
--- it is accepted, its header is rebuilt, and nothing is lost any more. A CU or CR finds a live context (rule 3.3 has 8 before
--- the fields) that reads the UDP checksum exactly where the compressor wrote it
-pub record Arrives (n : ℕ) (v : DecompressorContext) (h : Header) (a : Going) : Type 0 where
+-- it is accepted after j lost ones, its header is rebuilt, and nothing is lost any more. A CU or CR finds a live context (rule 3.3
+-- has 8 before the fields) that reads the UDP checksum exactly where the compressor wrote it; one that has it was sent one
+pub record Arrives (n j : ℕ) (v : DecompressorContext) (h : Header) (a : Going) : Type 0 where
   pub gap : ℕ
+  pub near : gap ≤ suc j
   pub after : DecompressorContext
   pub accepts : receivedOf n h a v ≡ acceptedAs gap after
   pub exact : rebuilt after (a .parts .checksum) ≡ h
   pub live : isFull (a .kind) ≡ false → v .status ≡ Live
   pub carries : isFull (a .kind) ≡ false → checksumRead v ≡ checksumSent (a .context)
+  pub blank : h .checksum ≡ 0 → checksumRead after ≡ false
   pub keeps : Related n 0 after (a .context)

@@ -16,7 +16,7 @@ use Rattle.compressor.specs.SendLaws.{On, tableAt, kindAt, bytesAt}
 use Rattle.decompressor.specs.declared.table.Table as decompressor
 use Rattle.decompressor.specs.Receive.{receiveOf}
 use Rattle.calls.specs.Calls as calls
-use Rattle.crtp.specs.Robust.{Bytes}
+use Rattle.crtp.specs.Robust.{Bytes, checksumFits}
 use Rattle.crtp.proofs.Lists.{Frame, frameOf, frameContext}
 use Rattle.crtp.proofs.Tables.{SenderFit, ReceiverFit, RelatedAt, Rel, sender-send}
 use Rattle.crtp.proofs.Given.{gave, gave-here}
@@ -27,16 +27,20 @@ module _ (s : Settings) (t : compressor.Table) (sender : SenderFit s t) (d : dec
     (p : Bytes) (c : ℕ) where
   module _ (on : On t (p .list) c) (full : kindAt t (p .list) c ≡ 1) (output : List ℕ)
       (accepted : receiveOf d (kindAt t (p .list) c) (bytesAt t (p .list) c) output .number ≡ 0) where
-    accepts : Accepts s t sender d receiver p c on (t .settings)
+    accepts : Accepts s t sender d receiver p c on 0 (t .settings)
     accepts = accepts-full s t sender d receiver p c on full
+
+    -- it is no guess, so its checksum is not looked at
+    unasked : 1 ≤ 0 → checksumFits (p .list) ≡ true
+    unasked h = absurd (omega arith)
 
     -- accepted, it had room
     roomy : Dec (length (p .list) ≤ length output) → length (p .list) ≤ length output
     roomy (yes h) = h
-    roomy (no h) = absurd (omega (arith, accepted, here-lacks s t sender d receiver p c on accepts output (omega arith)))
+    roomy (no h) = absurd (omega (arith, accepted, here-lacks s t sender d receiver p c on 0 accepts unasked output (omega arith)))
 
     filled : RelatedAt c 0 (receiveOf d (kindAt t (p .list) c) (bytesAt t (p .list) c) output .table) (tableAt t (p .list) c)
-    filled = here-taken s t sender d receiver p c on accepts output (roomy (decLe (length (p .list)) (length output)))
+    filled = here-taken s t sender d receiver p c on 0 accepts unasked output (roomy (decLe (length (p .list)) (length output)))
 
   -- l: what the send gave out, of type 1 and on context c; output′: that of its arrival
   pub full-relates : (output : Bytes) (l : Frame) → frameOf (sendOf t (p .list) (output .list)) ≡ some l → l .kind ≡ 1

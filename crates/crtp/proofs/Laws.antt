@@ -25,7 +25,7 @@ use Rattle.saves.specs.Saves.{saveOf, loadOf}
 use Rattle.saves.specs.SavesLaws.{load-save}
 use Rattle.calls.specs.Calls as calls
 use Rattle.calls.proofs.Laws as calls·laws
-use Rattle.crtp.specs.Robust.{Bytes, Rebuilt}
+use Rattle.crtp.specs.Robust.{Bytes, checksumFits, Rebuilt}
 use Rattle.crtp.proofs.Lists.{Frame, frameOf, formOf, frameContext, ends}
 use Rattle.crtp.proofs.Tables.{SenderFit, ReceiverFit, RelatedAt, Rel, sender-send, sender-request, receiver-receive}
 use Rattle.crtp.proofs.Given.{Gave, gave, kept, gave-bytes, gave-here, gave-plainly}
@@ -104,7 +104,7 @@ module _ (s : Settings) where
 
         -- on c
         module _ (on : calls.isOn (frameContext l) c ≡ true) where
-          accepts : (o : On t (p .list) c) → Accepts s t (r .sender) d (r .receiver) p c o (t .settings)
+          accepts : (o : On t (p .list) c) → Accepts s t (r .sender) d (r .receiver) p c o j (t .settings)
           accepts o = accepts-related s t (r .sender) d (r .receiver) p c o j (r .related)
 
           loses : suc j ≤ s .repeats → Rel s c (suc j) d next
@@ -113,31 +113,32 @@ module _ (s : Settings) where
               (gave-here s t (r .sender) p c (λ f x. RelatedAt c (suc j) d x)
               (λ o. here-lost s t (r .sender) d (r .receiver) p c o j (r .related) few) l next given on)
 
-          module _ (b : Bytes) where
+          -- it arrives; its checksum fits if one was lost before it
+          module _ (fits : 1 ≤ j → checksumFits (p .list) ≡ true) (b : Bytes) where
             -- with room
             module _ (room : length (p .list) ≤ length (b .list)) where
               right : Rebuilt (p .list) (receiveOf d (l .kind) (l .bytes) (b .list))
               right =
                   gave-here s t (r .sender) p c (λ f x. Rebuilt (p .list) (receiveOf d (f .kind) (f .bytes) (b .list)))
-                  (λ o. here-right s t (r .sender) d (r .receiver) p c o (accepts o) (b .list) room) l next given on
+                  (λ o. here-right s t (r .sender) d (r .receiver) p c o j (accepts o) fits (b .list) room) l next given on
 
               takes : Rel s c 0 (arrived b) next
               takes =
                   arrived-to b 0
                   (gave-here s t (r .sender) p c (λ f x. RelatedAt c 0 (receiveOf d (f .kind) (f .bytes) (b .list) .table) x)
-                  (λ o. here-taken s t (r .sender) d (r .receiver) p c o (accepts o) (b .list) room) l next given on)
+                  (λ o. here-taken s t (r .sender) d (r .receiver) p c o j (accepts o) fits (b .list) room) l next given on)
 
             -- without room
             module _ (short : length (b .list) < length (p .list)) where
               lacks : receiveOf d (l .kind) (l .bytes) (b .list) .number ≡ 11
               lacks =
                   gave-here s t (r .sender) p c (λ f x. receiveOf d (f .kind) (f .bytes) (b .list) .number ≡ 11)
-                  (λ o. here-lacks s t (r .sender) d (r .receiver) p c o (accepts o) (b .list) short) l next given on
+                  (λ o. here-lacks s t (r .sender) d (r .receiver) p c o j (accepts o) fits (b .list) short) l next given on
 
               stays : arrived b ≡ d
               stays =
                   gave-here s t (r .sender) p c (λ f x. receiveOf d (f .kind) (f .bytes) (b .list) .table ≡ d)
-                  (λ o. here-stays s t (r .sender) d (r .receiver) p c o (accepts o) (b .list) short) l next given on
+                  (λ o. here-stays s t (r .sender) d (r .receiver) p c o j (accepts o) fits (b .list) short) l next given on
 
               shorts : suc j ≤ s .repeats → Rel s c (suc j) (arrived b) next
               shorts few = subst (λ (x : decompressor.Table). Rel s c (suc j) x next) (sym stays) (loses few)
@@ -177,7 +178,7 @@ module _ (s : Settings) where
     others = λ c j d t p b l e o r. others t p b l e d c j r o;
     loses = λ c j d t p b l e o r few. loses t p b l e d c j r o few;
     passes = λ c j d t p b l e o r b′. passes t p b l e d c j r o b′;
-    takes = λ c j d t p b l e o r fit b′ room. (right t p b l e d c j r o b′ room, takes t p b l e d c j r o b′ room);
-    shorts = λ c j d t p b l e o r few fit b′ short. shorts t p b l e d c j r o b′ short few;
-    lacks = λ c j d t p b l e o r fit b′ short. lacks t p b l e d c j r o b′ short;
+    takes = λ c j d t p b l e o r fit b′ room. (right t p b l e d c j r o fit b′ room, takes t p b l e d c j r o fit b′ room);
+    shorts = λ c j d t p b l e o r few fit b′ short. shorts t p b l e d c j r o fit b′ short few;
+    lacks = λ c j d t p b l e o r fit b′ short. lacks t p b l e d c j r o fit b′ short;
   }

@@ -20,8 +20,8 @@ use Rattle.saves.specs.SavesLaws.{table-saveOf}
 use Rattle.calls.specs.Calls as calls
 use Rattle.calls.proofs.Always.{always-each}
 use Rattle.crtp.specs.Robust.{Bytes, Call, send, request, arrival, save, load, other, Sent, Saved, World, givenOut, savedBy}
-use Rattle.crtp.specs.Robust.{sentAt, savedAt, answer, step, after, Always, contextOf, isOn, has, losses, Bounded, Proper}
-use Rattle.crtp.specs.Robust.{Allowed, Rebuilt, Exact, fresh}
+use Rattle.crtp.specs.Robust.{sentAt, savedAt, answer, step, after, Always, contextOf, isOn, has, losses, Bounded, Gap}
+use Rattle.crtp.specs.Robust.{checksumFits, Proper, Allowed, Rebuilt, Exact, fresh}
 
 ---- The two ends
 
@@ -50,7 +50,7 @@ frameContext f = contextOf (record { packet = []; kind = f .kind; bytes = f .byt
 abbrev noBytes : Bytes
 noBytes = record { list = []; small = bytes.none }
 
--- every packet may arrive right after a gap
+-- a packet whose UDP checksum is blank or right may arrive right after a gap
 abbrev pub ends : calls.Ends Bytes Frame Bytes Bytes (List ℕ) compressor.Table decompressor.Table sending.Result receiving.Result
 ends = record {
   size = λ p. length (p .list);
@@ -66,7 +66,7 @@ ends = record {
   load = λ t f. loadOf t f .table;
   Right = λ p r. Rebuilt (p .list) r;
   Lacking = λ r. r .number ≡ 11;
-  Fit = λ p. Unit {0};
+  Fit = λ p. checksumFits (p .list) ≡ true;
   nothing = record { orig = noBytes; link = record { kind = 0; bytes = [] } };
   noForm = [];
 }
@@ -176,7 +176,7 @@ has-same : (line : List ℕ) (m : ℕ) → has line m ≡ calls.has line m
 has-same [] m = refl
 has-same (k ∷ ks) m = rw (has-same ks m)
 
-map-take : {A B : Type 0} (f : A → B) (n : ℕ) (xs : List A) → take n (map f xs) ≡ map f (take n xs)
+pub map-take : {A B : Type 0} (f : A → B) (n : ℕ) (xs : List A) → take n (map f xs) ≡ map f (take n xs)
 map-take f zero xs = refl
 map-take f (suc n) [] = refl
 map-take {B = B} f (suc n) (x ∷ xs) = ap {B = List B} (λ r. f x ∷ r) (map-take f n xs)
@@ -191,13 +191,39 @@ losses-worldOf : (c : ℕ) (w : Ends·World) (i : ℕ)
 losses-worldOf c w i =
     ap (λ (es : List Sent). losses c (w .line) 0 es) (map-take sentOf i (w .log)) ∙ losses-same c (w .line) 0 (take i (w .log))
 
+-- what is asked of a packet right after a gap, here and there
+module _ (c : ℕ) (w : Ends·World) (i : ℕ) where
+  on-worldOf : isOn (contextOf (sentAt (worldOf w) i)) c ≡ calls.isOn (frameContext (calls.linkAt ends w i)) c
+  on-worldOf =
+      ap (λ (e : Sent). isOn (contextOf e) c) (sentAt-worldOf w i) ∙ isOn-same (frameContext (calls.linkAt ends w i)) c
+
+  abbrev Asked : Type 0
+  Asked =
+      isOn (contextOf (sentAt (worldOf w) i)) c ≡ true → Gap (losses c (w .line) 0 (take i (map sentOf (w .log))))
+      → checksumFits (sentAt (worldOf w) i .packet) ≡ true
+
+  abbrev Asked·ends : Type 0
+  Asked·ends =
+      calls.isOn (frameContext (calls.linkAt ends w i)) c ≡ true → Gap (calls.lossesAt ends 0 c w i)
+      → checksumFits (calls.packetAt ends w i .list) ≡ true
+
+  fits-ends : Asked → Asked·ends
+  fits-ends f on gap =
+      subst (λ (e : Sent). checksumFits (e .packet) ≡ true) (sentAt-worldOf w i)
+      (f (on-worldOf ∙ on) (subst Gap (sym (losses-worldOf c w i)) gap))
+
+  fits-worldOf : Asked·ends → Asked
+  fits-worldOf f on gap =
+      subst (λ (e : Sent). checksumFits (e .packet) ≡ true) (sym (sentAt-worldOf w i))
+      (f (sym on-worldOf ∙ on) (subst Gap (losses-worldOf c w i) gap))
+
 module _ (n : ℕ) where
   proper-ends : (c : ℕ) (w : Ends·World) (i : ℕ) → Proper n (worldOf w) i → calls.Proper ends n 0 c w i
   proper-ends c w i p = record {
     sent = rw (length-map (w .log) sentOf) at (p .given);
     order = p .order;
     bounded = subst (Bounded n) (losses-worldOf c w i) (p .bounded c);
-    fit = λ on gap. tt;
+    fit = fits-ends c w i (p .fits c);
   }
 
   allowed-ends : (c : ℕ) (w : Ends·World) (x : Call) → Allowed n (worldOf w) x → calls.Allowed ends n 0 c w (callOf x)
@@ -214,6 +240,7 @@ module _ (n : ℕ) where
     given = rw (length-map (w .log) sentOf) (p 0 .sent);
     order = p 0 .order;
     bounded = λ c. subst (Bounded n) (sym (losses-worldOf c w i)) (p c .bounded);
+    fits = λ c. fits-worldOf c w i (p c .fit);
   }
 
   allowed-worldOf : (w : Ends·World) (x : Call) → ((c : ℕ) → calls.Allowed ends n 0 c w (callOf x)) → Allowed n (worldOf w) x

@@ -29,7 +29,7 @@ use Rattle.decompressor.specs.Receive.{receiveOf}
 use Rattle.decompressor.specs.ReceiveLaws.{receive-plain}
 use Rattle.decompressor.proofs.ReceiveSound.{contextAt-receive}
 use Rattle.calls.specs.Calls as calls
-use Rattle.crtp.specs.Robust.{Bytes, Rebuilt}
+use Rattle.crtp.specs.Robust.{Bytes, checksumFits, Rebuilt}
 use Rattle.crtp.proofs.Lists.{Frame, frameContext}
 use Rattle.crtp.proofs.Arrivals.{receive-sent}
 use Rattle.crtp.proofs.Tables.{SenderFit, ReceiverFit, RelatedAt}
@@ -67,27 +67,27 @@ module _ (s : Settings) (t : compressor.Table) (sender : SenderFit s t) (d : dec
         (lost-stepOn (t .settings .repeats) (headerOf (p .list)) (headerOf-range (p .small)) (compressing.contextAt t c)
         (decompressing.contextAt d c) j r (rw (sender .settings) few))
 
-    -- the decompressor's context accepts it: by the relation, or because it is a full header
-    abbrev pub Accepts : Settings → Type 0
-    Accepts x = Arrives (x .repeats) (decompressing.contextAt d c) (headerOf (p .list)) (stepAt t (p .list) c)
+    -- the decompressor's context accepts it after j lost ones: by the relation, or because it is a full header
+    abbrev pub Accepts : (j : ℕ) → Settings → Type 0
+    Accepts j x = Arrives (x .repeats) j (decompressing.contextAt d c) (headerOf (p .list)) (stepAt t (p .list) c)
 
-    pub accepts-related : (j : ℕ) → RelatedAt c j d t → Accepts (t .settings)
+    pub accepts-related : (j : ℕ) → RelatedAt c j d t → Accepts j (t .settings)
     accepts-related j r =
         arrives-stepOn (t .settings .repeats) (headerOf (p .list)) (headerOf-range (p .small)) (compressing.contextAt t c)
         (decompressing.contextAt d c) (on .place .flow) j r (sound-repeats t (sender .sound))
 
-    pub accepts-full : stepAt t (p .list) c .kind ≡ fullHeader → Accepts (t .settings)
+    pub accepts-full : stepAt t (p .list) c .kind ≡ fullHeader → Accepts 0 (t .settings)
     accepts-full =
         full-stepOn (t .settings .repeats) (headerOf (p .list)) (headerOf-range (p .small)) (compressing.contextAt t c)
         (decompressing.contextAt d c) (on .place .flow) (sender .held c)
 
-    -- it arrives
-    module _ (accepts : Accepts (t .settings)) (output : List ℕ) where
+    -- it arrives, and its checksum fits if one was lost before it
+    module _ (j : ℕ) (accepts : Accepts j (t .settings)) (fits : 1 ≤ j → checksumFits (p .list) ≡ true) (output : List ℕ) where
       same : t .settings ≡ d .settings
       same = sender .settings ∙ sym (receiver .settings)
 
-      there : Accepts (d .settings)
-      there = subst Accepts same accepts
+      there : Accepts j (d .settings)
+      there = subst (Accepts j) same accepts
 
       place : c < d .settings .contexts
       place = subst (λ (x : Settings). c < x .contexts) same (on .place .among)
@@ -101,7 +101,7 @@ module _ (s : Settings) (t : compressor.Table) (sender : SenderFit s t) (d : dec
       received : answer ≡ receiving.delivered d after (p .list) output
       received =
           receive-sent (p .list) (p .small) (on .compressible) (on .most) c (stepAt t (p .list) c) (writable s t sender p c on)
-          (carried s t sender p c on) d (receiver .sound) place there output
+          (carried s t sender p c on) d (receiver .sound) place j there fits output
 
       -- with room it is rebuilt, and nothing is lost any more
       module _ (room : length (p .list) ≤ length output) where

@@ -3,19 +3,20 @@
 -- (calls).
 use Prim.Native.Nat.{ℕ, suc, _<_}
 use mathlib.Core.Path.{_≡_, refl, sym, ap, _∙_, subst}
-use mathlib.Core.Bool.{false}
+use mathlib.Core.Bool.{true, false}
 use mathlib.Core.List.{List, [], _∷_, map}
-use lib.ListN.{length, getD, length-map, List·getD-map}
+use lib.ListN.{length, getD, take, length-map, List·getD-map}
 use Rattle.settings.specs.declared.Settings.{Settings}
 use Rattle.compressor.specs.Send.{sendOf}
 use Rattle.calls.specs.Calls as calls
-use Rattle.calls.specs.Earlier.{arrivals, lostIn, marks, Lawful, ExactIn, Earlier}
+use Rattle.calls.specs.Earlier.{arrivals, lostIn, marks, Lawful, FitAt, FitIn, ExactIn, Earlier}
 use Rattle.calls.proofs.Earlier.{earlier, earlier-allowed}
 use Rattle.crtp.specs.Robust as robust
-use Rattle.crtp.specs.Robust.{Bytes, contextOf, Rebuilt}
-use Rattle.crtp.specs.Unsaved.{Call, send, request, arrival, other, World, sentAt, answer, step, after, Ordered, lost, losses}
-use Rattle.crtp.specs.Unsaved.{Exact, Premises, Unsaved}
-use Rattle.crtp.proofs.Lists.{Frame, Ends·World, Ends·Call, ends, callOf, sentOf, sent-more, isOn-same, allowed-from-ends}
+use Rattle.crtp.specs.Robust.{Bytes, Sent, contextOf, isOn, Gap, checksumFits, Rebuilt}
+use Rattle.crtp.specs.Unsaved.{Call, send, request, arrival, other, World, sentIn, sentAt, answer, step, after, Ordered, lost}
+use Rattle.crtp.specs.Unsaved.{losses, Fits, AllFit, Exact, Premises, Unsaved}
+use Rattle.crtp.proofs.Lists.{Frame, Ends·World, Ends·Call, ends, callOf, frameContext, sentOf, sent-more, isOn-same}
+use Rattle.crtp.proofs.Lists.{map-take, allowed-from-ends}
 use Rattle.crtp.proofs.Robust.{opened-faithful}
 
 ---- Calls and worlds
@@ -87,6 +88,30 @@ losses-marks c xs i [] = refl
 losses-marks c xs i (e ∷ es) =
     rw (isOn-same (contextOf (sentOf e)) c, lost-callOf xs i (length (e .orig .list)), losses-marks c xs (suc i) es)
 
+-- what is asked of packets right after a gap
+module _ (all : List Call) (log : List (calls.Sent Bytes Frame)) where
+  sentIn-map : (i : ℕ) → sentIn (map sentOf log) i ≡ sentOf (getD log i (ends .nothing))
+  sentIn-map i = List·getD-map sentOf log i (ends .nothing)
+
+  losses-front : (c i : ℕ) → losses c all 0 (take i (map sentOf log)) ≡ marks ends c (arrivals ends (endsCalls all)) 0 (take i log)
+  losses-front c i = ap (λ (es : List Sent). losses c all 0 es) (map-take sentOf i log) ∙ losses-marks c all 0 (take i log)
+
+  fit-at : (i : ℕ) → Fits all (map sentOf log) i → (c : ℕ) → FitAt ends c (arrivals ends (endsCalls all)) log i
+  fit-at i f c on gap =
+      subst (λ (e : Sent). checksumFits (e .packet) ≡ true) (sentIn-map i)
+      (f c
+      (ap (λ (e : Sent). isOn (contextOf e) c) (sentIn-map i)
+      ∙ isOn-same (frameContext (getD log i (ends .nothing) .link)) c ∙ on)
+      (subst Gap (sym (losses-front c i)) gap))
+
+  fit-in : (xs : List Call) → AllFit all (map sentOf log) xs → (c : ℕ)
+      → FitIn ends c (arrivals ends (endsCalls all)) log (arrivals ends (endsCalls xs))
+  fit-in [] f c = tt
+  fit-in (send p output ∷ xs) f c = fit-in xs f c
+  fit-in (request q ∷ xs) f c = fit-in xs f c
+  fit-in (arrival i output ∷ xs) f c = (fit-at i (f .0) c, fit-in xs (f .1) c)
+  fit-in (other ∷ xs) f c = fit-in xs f c
+
 ---- The claim
 
 module _ (all : List Call) where
@@ -129,21 +154,26 @@ module _ (s : Settings) (v : World) (xs : List Call) (p : Premises s v xs) where
       (marks ends c (arrivals ends (endsCalls xs)) 0 (calls.final ends start (endsCalls xs) .log))
   bounded c = rw (sent-is, losses-marks c xs 0 (calls.final ends start (endsCalls xs) .log)) at (p .bounded c)
 
+  fitting : (c : ℕ)
+      → FitIn ends c (arrivals ends (endsCalls xs)) (calls.final ends start (endsCalls xs) .log) (arrivals ends (endsCalls xs))
+  fitting =
+      fit-in xs (calls.final ends start (endsCalls xs) .log) xs (subst (λ (es : List Sent). AllFit xs es xs) sent-is (p .fits))
+
   -- the list as one of Robust's meets the premises there
   pub premises-unsaved : robust.Premises s (v .compressor) (v .decompressor) (map asRobust xs)
   premises-unsaved = record {
     opened = p .opened;
     allowed =
         allowed-from-ends (s .repeats) (v .compressor) (v .decompressor) (map asRobust xs)
-        (earlier-allowed ends (s .repeats) (v .compressor) (v .decompressor) (λ q. tt) (endsCalls xs) lawful bounded);
+        (earlier-allowed ends (s .repeats) (v .compressor) (v .decompressor) (endsCalls xs) lawful bounded fitting);
   }
 
   exact-unsaved : Earlier ends (s .repeats) (v .compressor) (v .decompressor) → Exact xs v xs
   exact-unsaved claim =
-      subst (λ (u : World). Exact xs u xs) (sym start-is) (exact-calls xs xs start (claim (endsCalls xs) lawful bounded))
+      subst (λ (u : World). Exact xs u xs) (sym start-is) (exact-calls xs xs start (claim (endsCalls xs) lawful bounded fitting))
 
 pub unsaved : Unsaved
 unsaved s w xs p =
     exact-unsaved s w xs p
-    (earlier ends (s .repeats) (w .compressor) (w .decompressor) (λ q. tt)
+    (earlier ends (s .repeats) (w .compressor) (w .decompressor)
     (opened-faithful s (w .compressor) (w .decompressor) (p .opened)))

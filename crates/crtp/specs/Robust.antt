@@ -1,14 +1,16 @@
--- Iarwennol. Robustness, stated (rules 10.1 to 10.5 and 10.7): one claim about whole lists of calls, over bytes, about the very
--- definitions that the contracts of the calls cite. This file can be read alone; its proof is `robust` (proofs/Robust.antt).
+-- Iarwennol. Robustness, stated (rules 10.1 to 10.5, 10.7 and 10.9): one claim about whole lists of calls, over bytes, about the
+-- very definitions that the contracts of the calls cite. This file can be read alone; its proof is `robust` (proofs/Robust.antt).
 -- Unsaved has the claim for lists without saves and loads, where what is lost can be told by the arrivals alone.
 use Prim.Native.Nat.{ℕ, suc, _≤_, _<_}
 use mathlib.Core.Path.{_≡_}
-use mathlib.Core.Bool.{Bool, true, false, cond, not}
+use mathlib.Core.Bool.{Bool, true, false, cond, not, _||_}
 use mathlib.Core.List.{List, [], _∷_, _++_}
 use mathlib.Core.Option.{Option, none, some}
 use lib.Dec.{eqb, ltb}
 use lib.ListN.{length, getD, take, replicate}
 use Rattle.codes.specs.Bytes.{AllBytes}
+use Rattle.codes.specs.Reading.{wordAt}
+use Rattle.headers.specs.UdpChecksum.{udpRight}
 use Rattle.settings.specs.declared.Settings.{Settings}
 use Rattle.compressor.specs.declared.table.Table as compressor
 use Rattle.compressor.specs.Answer as sending
@@ -165,6 +167,16 @@ losses c line i (e ∷ es) = cond (isOn (contextOf e) c) (lost line i ∷ losses
 abbrev pub Bounded : ℕ → List Bool → Type 0
 Bounded n marks = (a b : List Bool) → marks ≡ a ++ (replicate (suc n) true ++ b) → ⊥
 
+---- What may follow a gap
+
+-- rule 10.9: the last packet of a context number is lost
+abbrev pub Gap : List Bool → Type 0
+Gap marks = (a : List Bool) × (marks ≡ a ++ (true ∷ []))
+
+-- rule 10.9: a packet's UDP checksum is blank, or right
+abbrev pub checksumFits : (packet : List ℕ) → Bool
+checksumFits p = eqb (wordAt p 26) 0 || udpRight p
+
 ---- Arrivals and loads
 
 pub record Proper (n : ℕ) (w : World) (i : ℕ) : Type 0 where
@@ -173,6 +185,9 @@ pub record Proper (n : ℕ) (w : World) (i : ℕ) : Type 0 where
   pub order : w .next ≤ i
   -- rule 10.4: of the packets sent before it, for every context number
   pub bounded : (c : ℕ) → Bounded n (losses c (w .line) 0 (take i (w .sent)))
+  -- rule 10.9: if the last packet sent before it on its context number is lost, its UDP checksum fits; with room or without
+  pub fits : (c : ℕ) → isOn (contextOf (sentAt w i)) c ≡ true → Gap (losses c (w .line) 0 (take i (w .sent)))
+      → checksumFits (sentAt w i .packet) ≡ true
 
 -- rules 10.1, 10.2: each arrival is so, and each load is of a save that was accepted before it
 abbrev pub Allowed : (n : ℕ) → World → Call → Type 0
@@ -214,7 +229,7 @@ pub record Opened (s : Settings) (t : compressor.Table) (d : decompressor.Table)
 abbrev pub fresh : compressor.Table → decompressor.Table → World
 fresh t d = record { compressor = t; decompressor = d; sent = []; line = []; saved = []; next = 0 }
 
--- rules 10.1 to 10.4 and 10.7: all that is asked
+-- rules 10.1 to 10.4, 10.7 and 10.9: all that is asked
 pub record Premises (s : Settings) (t : compressor.Table) (d : decompressor.Table) (xs : List Call) : Type 0 where
   pub opened : Opened s t d
   pub allowed : Always (Allowed (s .repeats)) (fresh t d) xs

@@ -1,13 +1,13 @@
--- Iarwennol. Robustness of lists without saves and loads, stated (rules 10.1 to 10.5): what is lost is told by the arrivals of the
--- list. Read Robust first, whose words for bytes, for what was sent and for openings it shares; its proof is `unsaved`
--- (proofs/Unsaved.antt), which also shows that such a list meets the premises of Robust.
+-- Iarwennol. Robustness of lists without saves and loads, stated (rules 10.1 to 10.5 and 10.9): what is lost is told by the
+-- arrivals of the list. Read Robust first, whose words for bytes, for what was sent and for openings it shares; its proof is
+-- `unsaved` (proofs/Unsaved.antt), which also shows that such a list meets the premises of Robust.
 -- Used by endpoint, whose calls are such lists for each direction.
 use Prim.Native.Nat.{ℕ, suc, _≤_, _<_}
 use mathlib.Core.Path.{_≡_}
 use mathlib.Core.Bool.{Bool, true, false, cond}
 use mathlib.Core.List.{List, [], _∷_, _++_}
 use lib.Dec.{eqb, ltb}
-use lib.ListN.{length, getD}
+use lib.ListN.{length, getD, take}
 use Rattle.settings.specs.declared.Settings.{Settings}
 use Rattle.compressor.specs.declared.table.Table as compressor
 use Rattle.compressor.specs.Send.{sendOf}
@@ -15,7 +15,7 @@ use Rattle.compressor.specs.Request.{requestOf}
 use Rattle.decompressor.specs.declared.table.Table as decompressor
 use Rattle.decompressor.specs.Answer as receiving
 use Rattle.decompressor.specs.Receive.{receiveOf}
-use Rattle.crtp.specs.Robust.{Bytes, Sent, givenOut, contextOf, isOn, Bounded, Rebuilt, Opened}
+use Rattle.crtp.specs.Robust.{Bytes, Sent, givenOut, contextOf, isOn, Bounded, Gap, checksumFits, Rebuilt, Opened}
 
 ---- The list of calls
 
@@ -34,8 +34,11 @@ pub record World : Type 0 where
   pub sent : List Sent
 
 -- the i-th packet given out
+abbrev pub sentIn : List Sent → ℕ → Sent
+sentIn es i = getD es i (record { packet = []; kind = 0; bytes = [] })
+
 abbrev pub sentAt : World → ℕ → Sent
-sentAt w i = getD (w .sent) i (record { packet = []; kind = 0; bytes = [] })
+sentAt w i = sentIn (w .sent) i
 
 -- rule 10.2: what an arrival of it answers, which hands over the very type and bytes
 abbrev pub answer : World → (i : ℕ) (output : Bytes) → receiving.Result
@@ -85,6 +88,22 @@ losses c xs i [] = []
 losses c xs i (e ∷ es) =
     cond (isOn (contextOf e) c) (lost xs i (length (e .packet)) ∷ losses c xs (suc i) es) (losses c xs (suc i) es)
 
+---- What may follow a gap
+
+-- rule 10.9: if the last packet sent before the i-th on its context number is lost, the UDP checksum of the i-th fits; all: the
+-- whole list, es: all that was given out
+abbrev pub Fits : (all : List Call) → (es : List Sent) → (i : ℕ) → Type 0
+Fits all es i =
+    (c : ℕ) → isOn (contextOf (sentIn es i)) c ≡ true → Gap (losses c all 0 (take i es)) → checksumFits (sentIn es i .packet) ≡ true
+
+-- of every arrival, with room or without
+abbrev pub AllFit : (all : List Call) → (es : List Sent) → List Call → Type 0
+AllFit all es [] = Unit {0}
+AllFit all es (send p output ∷ xs) = AllFit all es xs
+AllFit all es (request q ∷ xs) = AllFit all es xs
+AllFit all es (arrival i output ∷ xs) = Fits all es i × AllFit all es xs
+AllFit all es (other ∷ xs) = AllFit all es xs
+
 ---- The claim
 
 -- rule 10.5: every arrival that is not lost is rebuilt; all: the whole list
@@ -97,12 +116,13 @@ Exact all w (arrival i output ∷ xs) =
     × Exact all (step w (arrival i output)) xs
 Exact all w (other ∷ xs) = Exact all w xs
 
--- rules 10.1 to 10.4: all that is asked
+-- rules 10.1 to 10.4 and 10.9: all that is asked
 pub record Premises (s : Settings) (w : World) (xs : List Call) : Type 0 where
   pub opened : Opened s (w .compressor) (w .decompressor)
   pub nothing : w .sent ≡ []
   pub ordered : Ordered w 0 xs
   pub bounded : (c : ℕ) → Bounded (s .repeats) (losses c xs 0 (after w xs .sent))
+  pub fits : AllFit xs (after w xs .sent) xs
 
 -- rule 10.5: then every arrival that is not lost is rebuilt
 abbrev pub Unsaved : Type 0

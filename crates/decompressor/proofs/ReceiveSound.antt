@@ -51,7 +51,7 @@ use Rattle.decompressor.specs.Answer.{Result, accepted, refused, deliver
 use Rattle.decompressor.specs.Table.{noContext, soundOf, contextAt, withContext, Sound}
 use Rattle.decompressor.specs.TableLaws.{soundOf-true, sound-contextAt, sound-withContext}
 use Rattle.decompressor.specs.Receive.{packetOf, receivePlain, fullTable, receiveFullBy, receiveFull, rebuildTo}
-use Rattle.decompressor.specs.Receive.{settle, settleRead}
+use Rattle.decompressor.specs.Receive.{isDisproved, settle, settleRead}
 use Rattle.decompressor.specs.Receive.{receiveParts, receiveWhole, receiveOld, receiveUdp, receiveRtp, receiveOn}
 use Rattle.decompressor.specs.Receive.{receiveCompressed, receiveKind}
 use Rattle.decompressor.specs.Receive.{receiveBy, receiveOf}
@@ -181,20 +181,35 @@ module _ (t : Table) (s : List ℕ) (a : AllBytes s) where
 ---- COMPRESSED_UDP and COMPRESSED_RTP
 
 module _ (t : Table) (i : ℕ) (sound : Sound t) (among : i < t .settings .contexts) where
-  rebuildTo-way : (c : DecompressorContext) (sent : ℕ) (rest : List ℕ) → Follows (contextAt t i) c
-      → Way t i (λ output. rebuildTo t i c sent rest output)
-  rebuildTo-way c sent rest f =
+  -- refused, with the context broken
+  broken-way : (number : ℕ) → 1 ≤ number → Way t i (λ output. refused (withContext t i (broke (contextAt t i))) number output)
+  broken-way number some =
+      refuses (withContext t i (broke (contextAt t i))) number some
+      (one (broke (contextAt t i)) among (record {
+        sound = sound-broke (contextAt t i) (sound-contextAt t i sound);
+        range = range-broke (contextAt t i);
+      })) (λ output. refl)
+
+  rebuildTo-way : (g : ℕ) (c : DecompressorContext) (sent : ℕ) (rest : List ℕ) → Follows (contextAt t i) c
+      → Way t i (λ output. rebuildTo t i g c sent rest output)
+  rebuildTo-way g c sent rest f =
       way-if (ltb 1500 (headerSize (rebuilt c sent) + length rest))
       (λ output. refused t 10 output)
-      (λ output. delivered t (withContext t i c) (packetOf (rebuilt c sent) rest) output)
+      (λ output. cond (isDisproved c g (packetOf (rebuilt c sent) rest))
+      (refused (withContext t i (broke (contextAt t i))) 12 output)
+      (delivered t (withContext t i c) (packetOf (rebuilt c sent) rest) output))
       (λ long. refuses t 10 (omega arith) same (λ output. refl))
-      (gives (withContext t i c) (packetOf (rebuilt c sent) rest) (one c among f) (λ output. refl))
+      (way-if (isDisproved c g (packetOf (rebuilt c sent) rest))
+      (λ output. refused (withContext t i (broke (contextAt t i))) 12 output)
+      (λ output. delivered t (withContext t i c) (packetOf (rebuilt c sent) rest) output)
+      (λ wrong. broken-way 12 (omega arith))
+      (gives (withContext t i c) (packetOf (rebuilt c sent) rest) (one c among f) (λ output. refl)))
 
   settle-way : (x : Effect) (sent : ℕ) (rest : List ℕ) → Follows (contextAt t i) (x .context)
       → Way t i (λ output. settle x t i sent rest output)
   settle-way x sent rest f =
-      way-number (x .number) (withContext t i (x .context)) (λ output. rebuildTo t i (x .context) sent rest output)
-      (λ z. rebuildTo-way (x .context) sent rest f) (one (x .context) among f)
+      way-number (x .number) (withContext t i (x .context)) (λ output. rebuildTo t i (x .gap) (x .context) sent rest output)
+      (λ z. rebuildTo-way (x .gap) (x .context) sent rest f) (one (x .context) among f)
 
   -- o: what was found of the reading
   settleRead-way : (o : Verdict) (at : ℕ) (x : Effect) (sent : ℕ) (s : List ℕ) → Follows (contextAt t i) (x .context)
@@ -251,17 +266,9 @@ module _ (old : OldForm) (t : Table) (sound : Sound t) (s : List ℕ) (a : AllBy
           (h .flags .low) s small
           (links.crOf-range s a (h .place) (h .flags) (checksumRead (contextAt t i)))
 
-    broken-way : Way t i (λ output. refused (withContext t i (broke (contextAt t i))) 8 output)
-    broken-way =
-        refuses (withContext t i (broke (contextAt t i))) 8 (omega arith)
-        (one (broke (contextAt t i)) among (record {
-          sound = sound-broke (contextAt t i) (sound-contextAt t i sound);
-          range = range-broke (contextAt t i);
-        })) (λ output. refl)
-
     receiveOn-way : (u : Status) (kind : ℕ) → contextAt t i .status ≡ u → Way t i (λ output. receiveOn old u kind t i h s output)
-    receiveOn-way Empty kind e = broken-way
-    receiveOn-way Broken kind e = broken-way
+    receiveOn-way Empty kind e = broken-way t i sound among 8 (omega arith)
+    receiveOn-way Broken kind e = broken-way t i sound among 8 (omega arith)
     receiveOn-way Live kind e =
         way-if (eqb kind 2) (λ output. receiveUdp old t i h s output) (λ output. receiveRtp t i h s output) (λ b. receiveUdp-way e)
         (receiveRtp-way e)

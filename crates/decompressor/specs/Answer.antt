@@ -24,7 +24,7 @@ pub record Result : Type 0 where
 abbrev pub accepted : Table → (bytes output : List ℕ) → Result
 accepted t bytes output = record { number = 0; length = length bytes; output = fronted output bytes; table = t }
 
--- rule 3.1: length 0, output as it was; t: the table as it was, or with the context broken (8, 9)
+-- rule 3.1: length 0, output as it was; t: the table as it was, or with the context broken (8, 9, 12)
 abbrev pub refused : Table → (number : ℕ) → (output : List ℕ) → Result
 refused t n output = record { number = n; length = 0; output = output; table = t }
 

@@ -1,17 +1,18 @@
 -- Iarwennol. An arrival (rules 3.3 to 3.5, 6, 7): what the decompressor makes of a link packet.
 -- Used by the contract of receive, and by the theorem on lists of calls (crtp), which is about this very definition.
 use Prim.Native.Nat.{ℕ, _+_, _-_}
-use mathlib.Core.Bool.{Bool, true, false, cond, _&&_}
+use mathlib.Core.Bool.{Bool, true, false, cond, not, _&&_}
 use mathlib.Core.List.{List, [], _∷_, _++_}
 use lib.Dec.{eqb, leb, ltb}
 use lib.ListN.{length, drop}
-use Rattle.codes.specs.Numbers.{unsound, badLength, unknownType, cut, noSuchContext, notLive, tooLong}
+use Rattle.codes.specs.Numbers.{unsound, badLength, unknownType, cut, noSuchContext, notLive, tooLong, disproved}
 use Rattle.codes.specs.Reading.{byteAt}
 use Rattle.packet.specs.Types.{plain, fullHeader, compressedUdp, compressedRtp}
 use Rattle.packet.specs.declared.header.Header.{Header}
 use Rattle.fields.specs.declared.place.Place.{Place}
 use Rattle.headers.specs.Header.{headerSize}
 use Rattle.headers.specs.Checksum.{printed}
+use Rattle.headers.specs.UdpChecksum.{udpRight}
 use Rattle.links.specs.declared.head.Head.{Head}
 use Rattle.links.specs.declared.head.ReadParts.{ReadParts}
 use Rattle.links.specs.declared.whole.ReadWhole.{ReadWhole}
@@ -62,17 +63,28 @@ receiveFull t s output = receiveFullBy (fhJudged (t .settings .contexts) s) t (f
 
 ---- COMPRESSED_UDP and COMPRESSED_RTP, on the context at place i
 
--- rule 3.3: accepted by its context: 10, then 11. sent: the UDP checksum that was read; rest: what follows the fields
-abbrev pub rebuildTo : (before : Table) → (i : ℕ) → DecompressorContext → (sent : ℕ) → (rest output : List ℕ) → Result
-rebuildTo before i c sent rest output =
+-- rule 7.10: judged is what is g steps on, more than one, where the context carries the UDP checksum
+abbrev pub isJudged : DecompressorContext → (g : ℕ) → Bool
+isJudged c g = checksumRead c && ltb 1 g
+
+-- rule 7.10: it is judged, and the UDP checksum of the rebuilt packet is not right
+abbrev pub isDisproved : DecompressorContext → (g : ℕ) → (packet : List ℕ) → Bool
+isDisproved c g packet = isJudged c g && not (udpRight packet)
+
+-- rule 3.3: accepted by its context, which it takes g steps on to c: 10, then 12, then 11. sent: the UDP checksum that was read;
+-- rest: what follows the fields
+abbrev pub rebuildTo : (before : Table) → (i g : ℕ) → DecompressorContext → (sent : ℕ) → (rest output : List ℕ) → Result
+rebuildTo before i g c sent rest output =
     cond (ltb 1500 (headerSize (rebuilt c sent) + length rest))
     (refused before tooLong output)
-    (delivered before (withContext before i c) (packetOf (rebuilt c sent) rest) output)
+    (cond (isDisproved c g (packetOf (rebuilt c sent) rest))
+    (refused (withContext before i (broke (contextAt before i))) disproved output)
+    (delivered before (withContext before i c) (packetOf (rebuilt c sent) rest) output))
 
 -- rule 3.1: what it does on its context; where that refuses it, the context is left broken
 abbrev pub settle : Effect → Table → (i : ℕ) → (sent : ℕ) → (rest output : List ℕ) → Result
 settle e t i sent rest output =
-    cond (eqb (e .number) 0) (rebuildTo t i (e .context) sent rest output)
+    cond (eqb (e .number) 0) (rebuildTo t i (e .gap) (e .context) sent rest output)
     (refused (withContext t i (e .context)) (e .number) output)
 
 -- rules 3.1, 3.3: the fields, read to their end or refused on the way with the context as it was

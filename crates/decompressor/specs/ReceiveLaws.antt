@@ -108,7 +108,7 @@ module _ (old : OldForm) (kind : ℕ) (t : Table) (i : ℕ) (h : Head) (s output
 -- parts that were read to a place, and accepted
 settle-accepted : (t : Table) (i q g at : ℕ) (h : Parts) (after : DecompressorContext) (s output : List ℕ)
     → applied (t .settings .repeats) q (contextAt t i) h ≡ acceptedAs g after
-    → receiveParts (record { place = good at; parts = h }) t i q s output ≡ rebuildTo t i after (h .checksum) (drop at s) output
+    → receiveParts (record { place = good at; parts = h }) t i q s output ≡ rebuildTo t i g after (h .checksum) (drop at s) output
 settle-accepted t i q g at h after s output e = rw e
 
 module _ (t : Table) (i q g : ℕ) (h : Parts) (after : DecompressorContext) (rest output : List ℕ)
@@ -129,14 +129,14 @@ module _ (t : Table) (i q g : ℕ) (h : Parts) (after : DecompressorContext) (re
     udp = cuBytes i q (contextAt t i .carried) h
 
     udp-read : receiveUdp Taken t i (record { place = good 2; flags = cuFlags q h }) (udp ++ rest) output
-        ≡ rebuildTo t i after (h .checksum) rest output
+        ≡ rebuildTo t i g after (h .checksum) rest output
     udp-read =
         rw (cuOf-cuBytes i q (contextAt t i .carried) h fits rest)
         (settle-accepted t i q g (length udp) h after (udp ++ rest) output accepts
-        ∙ ap (λ (l : List ℕ). rebuildTo t i after (h .checksum) l output) (drop-append-seam udp rest))
+        ∙ ap (λ (l : List ℕ). rebuildTo t i g after (h .checksum) l output) (drop-append-seam udp rest))
 
     pub receive-udp : 1 ≤ length (udp ++ rest) → length (udp ++ rest) ≤ 1500
-        → receiveOf t 2 (udp ++ rest) output ≡ rebuildTo t i after (h .checksum) rest output
+        → receiveOf t 2 (udp ++ rest) output ≡ rebuildTo t i g after (h .checksum) rest output
     unfolding receiveKind
     receive-udp a b =
         receive-kind t (udp ++ rest) output sound a b 2 (omega arith)
@@ -149,14 +149,14 @@ module _ (t : Table) (i q g : ℕ) (h : Parts) (after : DecompressorContext) (re
     rtp = crBytes i q (contextAt t i .carried) h
 
     rtp-read : receiveRtp t i (record { place = good 2; flags = crFlags q h }) (rtp ++ rest) output
-        ≡ rebuildTo t i after (h .checksum) rest output
+        ≡ rebuildTo t i g after (h .checksum) rest output
     rtp-read =
         rw (crOf-crBytes i q (contextAt t i .carried) h fits rest)
         (settle-accepted t i q g (length rtp) h after (rtp ++ rest) output accepts
-        ∙ ap (λ (l : List ℕ). rebuildTo t i after (h .checksum) l output) (drop-append-seam rtp rest))
+        ∙ ap (λ (l : List ℕ). rebuildTo t i g after (h .checksum) l output) (drop-append-seam rtp rest))
 
     pub receive-rtp : 1 ≤ length (rtp ++ rest) → length (rtp ++ rest) ≤ 1500
-        → receiveOf t 3 (rtp ++ rest) output ≡ rebuildTo t i after (h .checksum) rest output
+        → receiveOf t 3 (rtp ++ rest) output ≡ rebuildTo t i g after (h .checksum) rest output
     unfolding receiveKind
     receive-rtp a b =
         receive-kind t (rtp ++ rest) output sound a b 3 (omega arith)

@@ -9,7 +9,7 @@ use lib.Dec.{eqb}
 use Rattle.crtp.specs.Face.{firstRefusal}
 use Rattle.crtp.specs.Robust.{Bounded}
 use Rattle.crtp.specs.Unsaved as unsaved
-use Rattle.crtp.specs.Unsaved.{losses}
+use Rattle.crtp.specs.Unsaved.{losses, AllFit}
 use Rattle.crtp.specs.Example.{packet0, packet1, packet2, packet3, packet4, packet5, odd, asks, asksFirst, Shown}
 use Rattle.crtp.proofs.Example as crtp
 use Rattle.crtp.proofs.Example.{bytes, wide, narrow, chosen}
@@ -128,6 +128,7 @@ premises = record {
   proper = proper;
   ordered = crtp.premises .ordered;
   bounded = bounded-near;
+  fits = subst (λ (v : unsaved.World). AllFit crtp.list (v .sent) crtp.list) given-near (crtp.premises .fits);
 }
 
 -- so every arrival at far that is not lost is rebuilt there

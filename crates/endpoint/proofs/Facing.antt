@@ -238,4 +238,5 @@ facing s d w xs p =
       nothing = p .opened .nothing d;
       ordered = p .ordered;
       bounded = λ c. rw (view-after d xs w t (p .proper)) (p .bounded c);
+      fits = rw (view-after d xs w t (p .proper)) (p .fits);
     }))

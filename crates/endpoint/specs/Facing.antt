@@ -11,7 +11,7 @@ use lib.ListN.{length, take, getD}
 use Rattle.crtp.specs.Face.{Settings}
 use Rattle.crtp.specs.Robust.{Bytes, Sent, Bounded}
 use Rattle.crtp.specs.Unsaved as crtp
-use Rattle.crtp.specs.Unsaved.{Ordered, lost, losses}
+use Rattle.crtp.specs.Unsaved.{Ordered, lost, losses, AllFit}
 use Rattle.endpoint.specs.declared.answer.Endpoint.{Endpoint}
 use Rattle.endpoint.specs.Answer.{Result}
 use Rattle.endpoint.specs.Calls.{contextState, openOf, radioOf}
@@ -148,6 +148,7 @@ pub record Premises (s : Settings) (d : Side) (w : World) (xs : List Call) : Typ
   pub proper : AllProper d xs
   pub ordered : Ordered (view d w) 0 (map (seen d) xs)
   pub bounded : (c : ℕ) → Bounded (s .repeats) (losses c (map (seen d) xs) 0 (after w xs d .sent))
+  pub fits : AllFit (map (seen d) xs) (after w xs d .sent) (map (seen d) xs)
 
 -- rule 13.8
 abbrev pub Facing : Type 0

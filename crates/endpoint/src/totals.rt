@@ -60,5 +60,6 @@ pub fn is_counted(r: Refusal) -> bool
         Refusal::OutOfStep => true,
         Refusal::TooLong => true,
         Refusal::NoRoom => true,
+        Refusal::Disproved => true,
     }
 }

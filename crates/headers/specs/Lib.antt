@@ -1,11 +1,14 @@
 pub mod Rtp
 pub mod Header
 pub mod Checksum
+pub mod UdpChecksum
 pub mod Compressible
 pub mod RtpLaws
 pub mod ListLaws
 pub mod CompressibleLaws
 pub mod ChecksumLaws
+pub mod UdpChecksumLaws
 pub mod HeaderLaws
 pub mod RoundTrip
 pub mod Cases
+pub mod UdpCases

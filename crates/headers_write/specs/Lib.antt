@@ -1,1 +1,2 @@
--- Iarwennol. What is written is defined in headers.
+pub mod Summed
+pub mod SummedLaws

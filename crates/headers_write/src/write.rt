@@ -18,7 +18,7 @@ use headers::rtp::RtpFirst;
 use headers::rtp::RtpSecond;
 use packet::header::Header;
 
-fn put_udp(out: &mut [u8], at: usize, h: Header, size: u16) -> usize
+pub fn put_udp(out: &mut [u8], at: usize, h: Header, size: u16) -> usize
     requires { ⌜ at + 8 ≤ length (now out) ⌝ }
     ensures { λ r. ⌜ (r ≡ at + 8) × Wrote (now (out .entry)) (now (out .exit)) at r (udpBytes size h) ⌝ }
 {
@@ -30,7 +30,7 @@ fn put_udp(out: &mut [u8], at: usize, h: Header, size: u16) -> usize
 }
 
 // The twelve fixed bytes of an RTP header.
-fn put_rtp(out: &mut [u8], at: usize, h: Header) -> usize
+pub fn put_rtp(out: &mut [u8], at: usize, h: Header) -> usize
     requires { ⌜ Narrow h × (at + 12 ≤ length (now out)) ⌝ }
     ensures { λ r. ⌜ (r ≡ at + 12) × Wrote (now (out .entry)) (now (out .exit)) at r (rtpFixed h) ⌝ }
 {

@@ -117,7 +117,7 @@ module _ (n : ℕ) (h : Header) (r : HeaderInRange h) where
     pub held-stepOn : Held c → Held (stepOn n h c .context)
     held-stepOn k =
         stepOn-either n h c (λ a. Held (a .context))
-        (related-first-arrives n emptyDecompressor h firstLink r (omega arith) .keeps .held) (λ live. held-stepOf k)
+        (related-first-arrives n 0 emptyDecompressor h firstLink r (omega arith) .keeps .held) (λ live. held-stepOf k)
 
     ---- The relation; v: the decompressor's context
 
@@ -131,20 +131,21 @@ module _ (n : ℕ) (h : Header) (r : HeaderInRange h) where
       lost-stepOn j k few =
           stepOn-either n h c (λ a. Related n (suc j) v (a .context)) (lost-first j few) (related-lost n j v h c r few k)
 
-      arrives-first : Arrives n v h (firstStep n h firstLink)
-      arrives-first = related-first-arrives n v h firstLink r (omega arith)
+      arrives-first : (j : ℕ) → Arrives n j v h (firstStep n h firstLink)
+      arrives-first j = related-first-arrives n j v h firstLink r (omega arith)
 
       module _ (flow : c .status ≡ Live → h .flow ≡ c .flow) where
         -- the packet arrives
-        pub arrives-stepOn : (j : ℕ) → Related n j v c → n ≤ 14 → Arrives n v h (stepOn n h c)
+        pub arrives-stepOn : (j : ℕ) → Related n j v c → n ≤ 14 → Arrives n j v h (stepOn n h c)
         arrives-stepOn j k most =
-            stepOn-either n h c (λ a. Arrives n v h a) arrives-first (λ live. related-arrives n j v h c r (flow live) k live most)
+            stepOn-either n h c (λ a. Arrives n j v h a) (arrives-first j)
+            (λ live. related-arrives n j v h c r (flow live) k live most)
 
         -- a full header arrives whatever the decompressor has there
-        pub full-stepOn : Held c → stepOn n h c .kind ≡ fullHeader → Arrives n v h (stepOn n h c)
+        pub full-stepOn : Held c → stepOn n h c .kind ≡ fullHeader → Arrives n 0 v h (stepOn n h c)
         full-stepOn k =
-            stepOn-either n h c (λ a. a .kind ≡ fullHeader → Arrives n v h a) (λ e. arrives-first)
-            (λ live e. related-full n v h c r k (flow live) e)
+            stepOn-either n h c (λ a. a .kind ≡ fullHeader → Arrives n 0 v h a) (λ e. arrives-first 0)
+            (λ live e. related-full n 0 v h c r k (flow live) e)
 
 ---- What its link packet carries can be read back, whatever its kind
 

@@ -6,10 +6,10 @@ use mathlib.Core.Bool.{Bool, true, false, cond}
 use mathlib.Core.List.{List, [], _∷_}
 use lib.Dec.{eqb}
 use Rattle.codes.specs.Numbers.{unsound, badLength, unknownType, cut, forbidden, noSuchContext, unusedCode}
-use Rattle.codes.specs.Numbers.{notLive, outOfStep, tooLong, noRoom}
+use Rattle.codes.specs.Numbers.{notLive, outOfStep, tooLong, noRoom, disproved}
 use Rattle.packet.specs.declared.refusal.Refusal.{Refusal}
 use Rattle.packet.specs.declared.refusal.Refusal.the-variants.{Unsound, BadLength, UnknownType, Cut, Forbidden, NoSuchContext}
-use Rattle.packet.specs.declared.refusal.Refusal.the-variants.{UnusedCode, NotLive, OutOfStep, TooLong, NoRoom}
+use Rattle.packet.specs.declared.refusal.Refusal.the-variants.{UnusedCode, NotLive, OutOfStep, TooLong, NoRoom, Disproved}
 use Rattle.packet.specs.declared.refusal.Verdict.{Verdict}
 use Rattle.packet.specs.declared.refusal.Verdict.the-variants.{Accepted, Refused}
 
@@ -26,6 +26,7 @@ numberOf NotLive = notLive
 numberOf OutOfStep = outOfStep
 numberOf TooLong = tooLong
 numberOf NoRoom = noRoom
+numberOf Disproved = disproved
 
 -- rule 3.1: 0 where it is accepted
 abbrev pub verdictNumber : Verdict → ℕ
@@ -35,7 +36,7 @@ verdictNumber (Refused r) = numberOf r
 -- every refusal, and the verdict that has a number
 abbrev pub refusals : List Refusal
 refusals = Unsound ∷ BadLength ∷ UnknownType ∷ Cut ∷ Forbidden ∷ NoSuchContext ∷ UnusedCode ∷ NotLive ∷ OutOfStep ∷ TooLong
-    ∷ NoRoom ∷ []
+    ∷ NoRoom ∷ Disproved ∷ []
 
 abbrev pub verdictAmong : List Refusal → ℕ → Verdict
 verdictAmong [] n = Accepted

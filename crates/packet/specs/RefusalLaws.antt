@@ -8,7 +8,7 @@ use borrow.Author.Tests.{ne-eqb, eqb-true, eqb-false}
 use lib.Dec.{eqb}
 use Rattle.packet.specs.declared.refusal.Refusal.{Refusal}
 use Rattle.packet.specs.declared.refusal.Refusal.the-variants.{Unsound, BadLength, UnknownType, Cut, Forbidden, NoSuchContext}
-use Rattle.packet.specs.declared.refusal.Refusal.the-variants.{UnusedCode, NotLive, OutOfStep, TooLong, NoRoom}
+use Rattle.packet.specs.declared.refusal.Refusal.the-variants.{UnusedCode, NotLive, OutOfStep, TooLong, NoRoom, Disproved}
 use Rattle.packet.specs.declared.refusal.Verdict.the-variants.{Refused}
 use Rattle.packet.specs.Refusal.{numberOf, verdictOf, firstRefusal}
 
@@ -25,6 +25,7 @@ numberOf-least NotLive = omega arith
 numberOf-least OutOfStep = omega arith
 numberOf-least TooLong = omega arith
 numberOf-least NoRoom = omega arith
+numberOf-least Disproved = omega arith
 
 -- so a call that goes by the number takes it for a refusal
 pub numberOf-refused : (r : Refusal) → eqb (numberOf r) 0 ≡ false
@@ -43,6 +44,7 @@ verdictOf-numberOf NotLive = refl
 verdictOf-numberOf OutOfStep = refl
 verdictOf-numberOf TooLong = refl
 verdictOf-numberOf NoRoom = refl
+verdictOf-numberOf Disproved = refl
 
 first-by : (t : Bool) (a b : ℕ) → eqb a 0 ≡ t → cond t b a ≡ 0 → (a ≡ 0) × (b ≡ 0)
 first-by true a b t e = (eqb-true a 0 t, e)

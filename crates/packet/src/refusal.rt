@@ -14,6 +14,7 @@ pub enum Refusal {
     OutOfStep,
     TooLong,
     NoRoom,
+    Disproved,
 }
 
 // What is found of a packet, or of the part of it that was looked at so far: a call that finds a refusal answers it.

@@ -20,7 +20,7 @@ use Rattle.links.specs.Cr.{crOf}
 use Rattle.links.specs.Whole.{wholeOf}
 use Rattle.packet.specs.Refusal as refusal
 use Rattle.packet.specs.declared.refusal.Refusal.{Refusal}
-use Rattle.packet.specs.declared.refusal.Refusal.the-variants.{TooLong, NoRoom}
+use Rattle.packet.specs.declared.refusal.Refusal.the-variants.{TooLong, NoRoom, Disproved}
 use Rattle.context.specs.Decompressor.{broke, rebuilt, Effect, applied, appliedWhole, checksumRead}
 use Rattle.context.specs.declared.decompressor.Status.{Status}
 use Rattle.context.specs.declared.decompressor.Status.the-variants.{Empty, Live, Broken}
@@ -31,8 +31,8 @@ use Rattle.receive.specs.declared.settle.Taken.{Taken}
 use Rattle.decompressor.specs.Answer.{Result, accepted, refused, delivered}
 use Rattle.decompressor.specs.Table.{noContext, contextAt, withContext, Sound}
 use Rattle.decompressor.specs.TableLaws.{sound-repeats, sound-contextAt}
-use Rattle.decompressor.specs.Receive.{packetOf, rebuildTo, settleRead, receiveParts, receiveWhole, receiveOld, receiveUdp}
-use Rattle.decompressor.specs.Receive.{receiveRtp, receiveOn}
+use Rattle.decompressor.specs.Receive.{packetOf, isDisproved, rebuildTo, settleRead, receiveParts, receiveWhole, receiveOld}
+use Rattle.decompressor.specs.Receive.{receiveUdp, receiveRtp, receiveOn}
 use Rattle.decompressor.specs.declared.old.OldForm.{OldForm}
 use Rattle.decompressor.specs.declared.old.OldForm.the-variants as old
 use Rattle.receive.specs.Taken.{placed, Takes, leftBroken, HeadRead}
@@ -75,43 +75,64 @@ module _ (n : ℕ) (c : DecompressorContext) (output : List ℕ) where
 
 ---- rebuildTo
 
--- a result of so many bytes, that is judged by total
-module _ (n : ℕ) (before c : DecompressorContext) (bytes output : List ℕ) (total : ℕ) where
+-- a result of so many bytes, that is judged by total; wrong: it is disproved
+module _ (n : ℕ) (before c : DecompressorContext) (bytes output : List ℕ) (total : ℕ) (wrong : Bool) where
   abbrev made : Table → ℕ → Result
-  made t i = cond (ltb 1500 total) (refused t 10 output) (delivered t (withContext t i c) bytes output)
+  made t i =
+      cond (ltb 1500 total) (refused t 10 output)
+      (cond wrong (refused (withContext t i (broke (contextAt t i))) 12 output) (delivered t (withContext t i c) bytes output))
 
   made-long : 1500 < total → Takes n before (record { outcome = Refused TooLong; context = before }) output (λ t i. made t i)
   made-long h = rw (lt-ltb 1500 total h) (takes-refused n before output TooLong)
 
   module _ (h : total ≤ 1500) where
-    made-noRoom : length output < length bytes
-        → Takes n before (record { outcome = Refused NoRoom; context = before }) output (λ t i. made t i)
-    made-noRoom r = rw (le-ltb 1500 total h, lt-ltb (length output) (length bytes) r) (takes-refused n before output NoRoom)
+    made-wrong : (d : DecompressorContext) → d ≡ broke before → wrong ≡ true
+        → Takes n before (record { outcome = Refused Disproved; context = d }) output (λ t i. made t i)
+    made-wrong d b e = record {
+      anywhere = λ t i x f. rw (le-ltb 1500 total h, e) (λ j. refused (withContext t i ((b ∙ ap broke (sym f)) j)) 12 output);
+    }
 
-    made-accepted : (m : ℕ) (after : List ℕ) → length bytes ≤ length output → m ≡ length bytes → after ≡ fronted output bytes
-        → Takes n before (record { outcome = Accepted m; context = c }) after (λ t i. made t i)
-    made-accepted m after r f w = rw (le-ltb 1500 total h, le-ltb (length output) (length bytes) r)
-        (takes-accepted n before output c m bytes after f w)
+    module _ (e : wrong ≡ false) where
+      made-noRoom : length output < length bytes
+          → Takes n before (record { outcome = Refused NoRoom; context = before }) output (λ t i. made t i)
+      made-noRoom r = rw (le-ltb 1500 total h, e, lt-ltb (length output) (length bytes) r) (takes-refused n before output NoRoom)
+
+      made-accepted : (m : ℕ) (after : List ℕ) → length bytes ≤ length output → m ≡ length bytes → after ≡ fronted output bytes
+          → Takes n before (record { outcome = Accepted m; context = c }) after (λ t i. made t i)
+      made-accepted m after r f w = rw (le-ltb 1500 total h, e, le-ltb (length output) (length bytes) r)
+          (takes-accepted n before output c m bytes after f w)
 
 -- size: how long the packet is
-module _ (n : ℕ) (before c : DecompressorContext) (sent : ℕ) (rest output : List ℕ) (size : ℕ)
+module _ (n g : ℕ) (before c : DecompressorContext) (sent : ℕ) (rest output : List ℕ) (size : ℕ)
     (e : size ≡ headerSize (rebuilt c sent) + length rest) where
+  abbrev packet : List ℕ
+  packet = packetOf (rebuilt c sent) rest
+
+  abbrev total : ℕ
+  total = headerSize (rebuilt c sent) + length rest
+
+  abbrev wrong : Bool
+  wrong = isDisproved c g packet
+
   pub rebuildTo-long : 1500 < size
-      → Takes n before (record { outcome = Refused TooLong; context = before }) output (λ t i. rebuildTo t i c sent rest output)
-  rebuildTo-long h = made-long n before c (packetOf (rebuilt c sent) rest) output (headerSize (rebuilt c sent) + length rest)
-      (omega arith)
+      → Takes n before (record { outcome = Refused TooLong; context = before }) output (λ t i. rebuildTo t i g c sent rest output)
+  rebuildTo-long h = made-long n before c packet output total wrong (omega arith)
 
-  module _ (h : size ≤ 1500) (f : size ≡ length (packetOf (rebuilt c sent) rest)) where
-    pub rebuildTo-noRoom : length output < size
-        → Takes n before (record { outcome = Refused NoRoom; context = before }) output (λ t i. rebuildTo t i c sent rest output)
-    rebuildTo-noRoom r = made-noRoom n before c (packetOf (rebuilt c sent) rest) output (headerSize (rebuilt c sent) + length rest)
-        (omega arith) (rw (← f) r)
+  module _ (h : size ≤ 1500) where
+    pub rebuildTo-wrong : (d : DecompressorContext) → d ≡ broke before → wrong ≡ true
+        → Takes n before (record { outcome = Refused Disproved; context = d }) output (λ t i. rebuildTo t i g c sent rest output)
+    rebuildTo-wrong d b w = made-wrong n before c packet output total wrong (omega arith) d b w
 
-    pub rebuildTo-accepted : (after : List ℕ) → size ≤ length output → after ≡ fronted output (packetOf (rebuilt c sent) rest)
-        → Takes n before (record { outcome = Accepted size; context = c }) after (λ t i. rebuildTo t i c sent rest output)
-    rebuildTo-accepted after r w =
-        made-accepted n before c (packetOf (rebuilt c sent) rest) output (headerSize (rebuilt c sent) + length rest)
-        (omega arith) size after (rw (← f) r) f w
+    module _ (undisproved : wrong ≡ false) (f : size ≡ length packet) where
+      pub rebuildTo-noRoom : length output < size
+          → Takes n before (record { outcome = Refused NoRoom; context = before }) output
+          (λ t i. rebuildTo t i g c sent rest output)
+      rebuildTo-noRoom r = made-noRoom n before c packet output total wrong (omega arith) undisproved (rw (← f) r)
+
+      pub rebuildTo-accepted : (after : List ℕ) → size ≤ length output → after ≡ fronted output packet
+          → Takes n before (record { outcome = Accepted size; context = c }) after (λ t i. rebuildTo t i g c sent rest output)
+      rebuildTo-accepted after r w =
+          made-accepted n before c packet output total wrong (omega arith) undisproved size after (rw (← f) r) f w
 
 ---- HeadRead
 

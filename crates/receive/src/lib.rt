@@ -2,11 +2,11 @@
 //
 // Tables, their soundness and the answers are `decompressor`'s, and so is the definition `receiveOf`, which says all that an
 // arrival does. What becomes of one context is decided in `context` and `decompress`, what bytes mean in `headers` and `links`;
-// here
-// a link packet finds its context, and the rebuilt packet finds its output.
-// Read `receive` first, then `compressed` and `settle`.
+// here a link packet finds its context, and the rebuilt packet is judged and finds its output.
+// Read `receive` first, then `compressed`, `settle` and `judge`.
 mod compressed;
 mod full;
+mod judge;
 mod output;
 mod settle;
 

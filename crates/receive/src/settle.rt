@@ -5,10 +5,12 @@ ghost use Rattle.packet.specs.Ranges.{Narrow};
 ghost use Rattle.context.specs.Decompressor.{effectOf, rebuilt};
 ghost use Rattle.decompressor.specs.Receive.{rebuildTo, settle, settleRead};
 ghost use Rattle.receive.specs.Taken.{Takes};
+use crate::judge::is_disproved;
 use crate::output::packet_size;
 use crate::output::put_packet;
 use context::decompressor::Applied;
 use context::decompressor::DecompressorContext;
+use decompress::apply::break_context;
 use decompress::header::rebuild;
 use decompressor::answer::Outcome;
 use fields::place::Place;
@@ -24,9 +26,11 @@ pub struct Taken {
     pub context: DecompressorContext,
 }
 
-// A packet that its context accepted, which is moved on only where the packet could be given out.
+// A packet that its context accepted, g steps on. The context is moved on only where the packet could be given out, and broken
+// where the UDP checksum disproves the packet.
 pub fn rebuild_to(
     before: DecompressorContext,
+    g: u8,
     c: DecompressorContext,
     sent: u16,
     rest: &[u8],
@@ -34,7 +38,7 @@ pub fn rebuild_to(
 ) -> Taken
     requires { ⌜ Narrow (rebuilt c sent) × (length (now rest) ≤ 1500) ⌝ }
     ensures { λ r.
-        ⌜ ((n : ℕ) → Takes n before r (now (out .exit)) (λ t i. rebuildTo t i c sent (now (rest .entry)) (now (out .entry)))) ⌝ }
+        ⌜ ((n : ℕ) → Takes n before r (now (out .exit)) (λ t i. rebuildTo t i g c sent (now (rest .entry)) (now (out .entry)))) ⌝ }
 {
     let header = rebuild(c, sent);
     let size = packet_size(header, rest);
@@ -42,6 +46,13 @@ pub fn rebuild_to(
         return Taken {
             outcome: Outcome::Refused(Refusal::TooLong),
             context: before,
+        };
+    }
+    if is_disproved(c, g, header, rest, size) {
+        let broken = break_context(before);
+        return Taken {
+            outcome: Outcome::Refused(Refusal::Disproved),
+            context: broken,
         };
     }
     if out.len() < size {
@@ -73,7 +84,7 @@ pub fn settle(
     let found = a.verdict;
     let context = a.context;
     match found {
-        Verdict::Accepted => { rebuild_to(before, context, sent, rest, out) }
+        Verdict::Accepted => { rebuild_to(before, a.gap, context, sent, rest, out) }
         Verdict::Refused(why) => Taken {
             outcome: Outcome::Refused(why),
             context: context,

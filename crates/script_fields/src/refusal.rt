@@ -14,5 +14,6 @@ pub fn refusal_number(r: Refusal) -> u64 {
         Refusal::OutOfStep => 9,
         Refusal::TooLong => 10,
         Refusal::NoRoom => 11,
+        Refusal::Disproved => 12,
     }
 }

@@ -1,7 +1,7 @@
 //! Both ends in one endpoint: which table a call goes to, what each total counts and where it stops, and
 //! two endpoints facing each other.
 
-use crate::lists::{new_flow, next_packet, Flow, InFlight};
+use crate::lists::{keep_to_premise, new_flow, next_packet, row_of_losses, Flow, InFlight};
 use crate::support::{ensure, given, hex, same, voice, Given, Outcome, Voice, FILL};
 use oracle::endpoint::{self, Endpoint};
 use oracle::forge;
@@ -17,6 +17,7 @@ checks!(
     sends_count_by_type,
     arrivals_count_as_rebuilt,
     every_refused_call_counts,
+    wrong_checksums_count_as_refused,
     accepted_requests_and_reports_count_nowhere,
     totals_stop_at_the_end,
     losses_in_one_direction,
@@ -421,6 +422,30 @@ pub fn every_refused_call_counts(mutant: Mutant) -> Outcome {
     end.agrees_with_history()
 }
 
+/// 12 counts as refused, once for each call, with room and without, and not as rebuilt.
+pub fn wrong_checksums_count_as_refused(mutant: Mutant) -> Outcome {
+    let mut end = End::open(mutant, 1, 1);
+    let mut refused = 0;
+    for (rebuilt, room) in [(1, 0), (3, 41), (5, 42), (7, 1500)] {
+        let packet = voice(100, 10, 1000).summed();
+        end.accepts(1, &packet.full_header(0, 0, 0))?;
+        // Right for sequence 12 is 21d0.
+        end.refuses(12, 3, &hex("00 02 21d1 da7a"), room)?;
+        end.has([0, 0, 0, 0, rebuilt, refused + 1])?;
+        end.refuses(8, 3, &hex("00 02 21d0 da7a"), room)?;
+        end.has([0, 0, 0, 0, rebuilt, refused + 2])?;
+        end.accepts(1, &packet.full_header(0, 0, 0))?;
+        end.refuses(12, 2, &hex("00 82 00 0000 da7a"), room)?;
+        refused += 3;
+        end.has([0, 0, 0, 0, rebuilt + 1, refused])?;
+    }
+    let packet = voice(100, 10, 1000).summed();
+    end.accepts(1, &packet.full_header(0, 0, 0))?;
+    end.accepts(3, &hex("00 02 21d0 da7a"))?;
+    end.has([0, 0, 0, 0, 10, refused])?;
+    end.agrees_with_history()
+}
+
 pub fn accepted_requests_and_reports_count_nowhere(mutant: Mutant) -> Outcome {
     let mut end = End::open(mutant, 1, 2);
     end.link_packet(&voice(1, 1, 0), 1)?;
@@ -554,6 +579,8 @@ pub fn some_facing_lists(mutant: Mutant) -> Outcome {
 struct Counts {
     calls: usize,
     rebuilt: usize,
+    /// CU and CR with a checksum among them, after a loss.
+    guessed: usize,
     dropped: usize,
     without_room: usize,
     forged: usize,
@@ -561,7 +588,7 @@ struct Counts {
     /// Totals found stopped at the end of a list.
     stopped: [usize; 6],
     /// Answers by number.
-    numbers: [usize; 12],
+    numbers: [usize; 13],
 }
 
 /// One direction of the link.
@@ -664,9 +691,22 @@ impl Facing {
 
     fn send(&mut self, way: usize) -> Outcome {
         let Way {
-            flows, in_flight, ..
+            flows,
+            in_flight,
+            lost_in_a_row,
+            judged,
         } = &mut self.ways[way];
-        let packet = next_packet(&mut self.prng, flows, self.change);
+        let mut packet = next_packet(&mut self.prng, flows, self.change);
+        if *judged {
+            let end = &self.ends[way];
+            keep_to_premise(
+                (end.mutant, &end.endpoint.compressor),
+                in_flight,
+                lost_in_a_row,
+                self.repeats,
+                &mut packet,
+            );
+        }
         let room = match self.prng.below(10) {
             0 => self.prng.below(60),
             _ => 1500,
@@ -690,16 +730,26 @@ impl Facing {
         let Way {
             lost_in_a_row,
             judged,
+            in_flight,
             ..
         } = &mut self.ways[way];
-        let lost = place.map(|place| lost_in_a_row.entry(place).or_insert(0));
-        let may_lose = !*judged || lost.as_ref().is_none_or(|lost| **lost < self.repeats);
         let judged = *judged;
-        if self.prng.chance(self.loss, 100) && may_lose {
+        let row = place.map_or(0, |place| {
+            let lost = lost_in_a_row.get(&place).copied().unwrap_or(0);
+            row_of_losses(in_flight, place, lost + 1).0
+        });
+        let lost = place.map(|place| lost_in_a_row.entry(place).or_insert(0));
+        let may_lose = !judged || row <= self.repeats;
+        let guessed = lost.as_ref().is_some_and(|lost| **lost > 0);
+        let must_drop = judged && guessed && sent.needs_the_one_before();
+        if must_drop {
+            ensure("a loss that N allows", may_lose)?;
+        }
+        if must_drop || self.prng.chance(self.loss, 100) && may_lose {
             if let Some(lost) = lost {
                 *lost += 1;
             }
-            if self.prng.chance(3, 4) {
+            if must_drop || self.prng.chance(3, 4) {
                 counts.dropped += 1;
                 return Ok(());
             }
@@ -718,8 +768,10 @@ impl Facing {
         let room = sent.packet.len() + self.prng.pick(&[0, 0, 1, 100]);
         let found = self.ends[1 - way].radio(sent.link_type, &sent.bytes, room)?;
         if judged {
+            let carried = guessed && sent.link_type > 1 && sent.packet[26..28] != [0, 0];
             same("arrival", (found.number, found.bytes), (0, sent.packet))?;
             counts.rebuilt += 1;
+            counts.guessed += usize::from(carried);
         }
         Ok(())
     }
@@ -818,10 +870,11 @@ fn many_facing_lists() {
         }
     }
     println!(
-        "facing endpoints: {lists} lists, {} calls, {} rebuilt under the premises, {} dropped, {} without room, \
-         {} forged, {} reports handed over, totals stopped {:?}, answers by number {:?}",
+        "facing endpoints: {lists} lists, {} calls, {} rebuilt under the premises ({} by a judged checksum), {} dropped, \
+         {} without room, {} forged, {} reports handed over, totals stopped {:?}, answers by number {:?}",
         counts.calls,
         counts.rebuilt,
+        counts.guessed,
         counts.dropped,
         counts.without_room,
         counts.forged,
@@ -831,7 +884,7 @@ fn many_facing_lists() {
     );
     // The lists must really have held what they are meant to hold.
     assert!(counts.rebuilt > 50_000 && counts.dropped > 20_000 && counts.without_room > 5_000);
-    assert!(counts.forged > 5_000 && counts.reports > 1_000);
+    assert!(counts.forged > 5_000 && counts.reports > 1_000 && counts.guessed > 1_000);
     assert!(counts.stopped.iter().all(|&count| count > 200));
     assert!(counts.numbers.iter().all(|&count| count > 20));
 }

@@ -467,13 +467,16 @@ pub fn compressed_udp_with_a_whole_header(mutant: Mutant) -> Outcome {
     packet.csrc = vec![0xdead_beef];
     let bytes = hex("00 52 0102 04 0300 b1 85 4000 05000000 99aabbcc deadbeef da7a");
     ends.rebuilds(2, &bytes, &packet)?;
-    // CR after a gap of 2: ID by 8, timestamp by nothing, the rest as taken; M of its own.
+    // CR after a gap of 2: ID by 8, timestamp by nothing, the rest as taken; M of its own. Over a gap the checksum must be
+    // right: addresses, protocol, ports and twice the length 1a are 3b62, and
+    // 3b62+b105+4002+0500+0000+99aa+bbcc+dead+beef+da7a = 4fef5, folded fef9.
     packet.id = 0x308;
     packet.sequence = 0x4002;
     packet.marker = false;
-    packet.udp_checksum = 0xffff;
-    ends.rebuilds(3, &hex("00 04 ffff da7a"), &packet)?;
+    packet.udp_checksum = 0x0106;
+    ends.rebuilds(3, &hex("00 04 0106 da7a"), &packet)?;
     // F 0 with dT 7 and neither I nor dI: the header's timestamp is taken, 7 is kept; ID goes on.
+    packet.udp_checksum = 0xffff;
     packet.id = 0x30c;
     packet.sequence = 1;
     packet.timestamp = 2;

@@ -13,6 +13,8 @@ mod published;
 mod refusals;
 mod saved;
 mod scripts;
+mod scripts_of_checksums;
 mod scripts_of_rtp_headers;
 mod scripts_of_saves;
 mod soundness;
+mod udp_checksums;

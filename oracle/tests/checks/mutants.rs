@@ -1,12 +1,14 @@
 //! Every built-in fault is noticed by some check, and the program as it is passes all of them.
 
 use crate::support::Check;
-use crate::{cases, endpoint, layouts, lists, published, refusals, saved, soundness};
+use crate::{
+    cases, endpoint, layouts, lists, published, refusals, saved, soundness, udp_checksums,
+};
 use oracle::mutant::Mutant;
 use std::collections::BTreeSet;
 
 fn all_checks() -> Vec<(&'static str, &'static str, Check)> {
-    let groups: [(&str, &[(&str, Check)]); 8] = [
+    let groups: [(&str, &[(&str, Check)]); 9] = [
         ("cases", cases::CHECKS),
         ("published", published::CHECKS),
         ("layouts", layouts::CHECKS),
@@ -15,6 +17,7 @@ fn all_checks() -> Vec<(&'static str, &'static str, Check)> {
         ("lists", lists::CHECKS),
         ("endpoint", endpoint::CHECKS),
         ("saved", saved::CHECKS),
+        ("udp_checksums", udp_checksums::CHECKS),
     ];
     groups
         .iter()
@@ -45,7 +48,7 @@ fn every_mutant_is_caught() {
         caught += 1;
     }
     println!("mutants: {caught} of {} caught", Mutant::ALL.len());
-    assert_eq!(caught, 60);
+    assert_eq!(caught, 82);
 }
 
 #[test]
@@ -63,7 +66,7 @@ fn the_program_as_it_is_passes_the_same_checks() {
 /// Faults that break rebuilding must show in whole lists too, not only in worked cases.
 #[test]
 fn lists_catch_faults_of_rebuilding() {
-    for mutant in [
+    let others = [
         Mutant::RunNotCounted,
         Mutant::SingleStep,
         Mutant::AllRefused,
@@ -73,7 +76,11 @@ fn lists_catch_faults_of_rebuilding() {
         Mutant::FullHeaderKeepsDeltas,
         Mutant::RefusedSendUsesLink,
         Mutant::WholeFieldDropsDelta,
-    ] {
+        Mutant::ChecksumJudgedWithoutGap,
+        Mutant::ChecksumJudgedInFullHeader,
+        Mutant::ChecksumJudgedWhereBlank,
+    ];
+    for mutant in others.into_iter().chain(Mutant::MISTAKEN_SUMS) {
         assert!(
             lists::some_lists(mutant).is_err(),
             "{mutant:?} not caught by lists"

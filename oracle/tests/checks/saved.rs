@@ -1,13 +1,13 @@
 //! Saved tables: the bytes of files worked by hand, every refusal of a load where it stands, and lists of
 //! calls that save and load.
 
-use crate::lists::{new_flow, next_packet, Flow, InFlight};
+use crate::lists::{keep_to_premise, new_flow, next_packet, row_of_losses, Flow, InFlight};
 use crate::support::{ensure, hex, same, voice, Ends, Given, Outcome, Spoil, Voice};
 use oracle::decompressor::{self, Context, Status, Table};
 use oracle::files;
 use oracle::mutant::Mutant;
 use oracle::prng::Prng;
-use std::collections::{HashMap, VecDeque};
+use std::collections::{HashMap, HashSet, VecDeque};
 
 checks!(
     opened_tables,
@@ -133,8 +133,8 @@ pub fn marker_and_checksum(mutant: Mutant) -> Outcome {
     saves("other bits", &ends, &file)
 }
 
-/// CU with F that sends the differences 5 and -1, two packets on; after it CR, two packets on. The marker
-/// is that of the last packet, and that a checksum is carried stays from the FH, though 0000 came.
+/// CU with F that sends the differences 5 and -1; after it CR, two packets on. The marker is that of the last packet, and
+/// that a checksum is carried stays from the FH, though 0000 came.
 pub fn kept_differences(mutant: Mutant) -> Outcome {
     let mut ends = Ends::open(mutant, 1, 1);
     let first = Voice {
@@ -143,34 +143,36 @@ pub fn kept_differences(mutant: Mutant) -> Outcome {
         ..packet()
     };
     ends.fill(&first, 0, 63, 14)?;
-    // ID 1234 and 1 and 5, sequence two higher, timestamp 100 and 0 and -1.
+    // ID 1234 and 5, sequence one higher, timestamp 100 and -1.
     let second = Voice {
         marker: false,
-        id: 0x123a,
-        sequence: 9,
+        id: 0x1239,
+        sequence: 8,
         timestamp: 0xff,
         udp_checksum: 0,
         ..packet()
     };
-    ends.rebuilds(2, &hex("00 b0 00 0000 05 807f da7a"), &second)?;
-    let header = "45 b8 0000 123a 4000 40 11 0000 0a000001 0a000002 138c 138e 0000 ffff
-                  80 60 0009 000000ff 11223344";
-    let file = [hex("0035 01 01 01  01 3f 00 0005 ffffffff 28"), hex(header)].concat();
+    ends.rebuilds(2, &hex("00 bf 00 0000 05 807f da7a"), &second)?;
+    let header = "45 b8 0000 1239 4000 40 11 0000 0a000001 0a000002 138c 138e 0000 ffff
+                  80 60 0008 000000ff 11223344";
+    let file = [hex("0035 01 01 01  01 3f 0f 0005 ffffffff 28"), hex(header)].concat();
     saves("after CU", &ends, &file)?;
-    // A second flag byte brings a list of one word: 10 and 44 bytes.
+    // A second flag byte brings a list of one word: 10 and 44 bytes. Over a gap the checksum must be right: addresses,
+    // protocol, ports and twice the length 1a are 3b62, and 3b62+81e0+000a+00fd+1122+3344+a1a2+a3a4+da7a = 3226f,
+    // folded 2272.
     let third = Voice {
         marker: true,
-        id: 0x1244,
-        sequence: 11,
+        id: 0x1243,
+        sequence: 10,
         timestamp: 0xfd,
-        udp_checksum: 0x5555,
+        udp_checksum: 0xdd8d,
         csrc: vec![0xa1a2_a3a4],
         ..packet()
     };
-    ends.rebuilds(3, &hex("00 f2 5555 81 a1a2a3a4 da7a"), &third)?;
-    let header = "45 b8 0000 1244 4000 40 11 0000 0a000001 0a000002 138c 138e 0000 ffff
-                  81 e0 000b 000000fd 11223344 a1a2a3a4";
-    let file = [hex("0039 01 01 01  01 3f 02 0005 ffffffff 2c"), hex(header)].concat();
+    ends.rebuilds(3, &hex("00 f1 dd8d 81 a1a2a3a4 da7a"), &third)?;
+    let header = "45 b8 0000 1243 4000 40 11 0000 0a000001 0a000002 138c 138e 0000 ffff
+                  81 e0 000a 000000fd 11223344 a1a2a3a4";
+    let file = [hex("0039 01 01 01  01 3f 01 0005 ffffffff 2c"), hex(header)].concat();
     saves("after CR", &ends, &file)
 }
 
@@ -911,6 +913,9 @@ struct Counts {
     lost_by_loads: usize,
     /// Loads after which N packets in a row are lost on some context.
     to_the_limit: usize,
+    /// CU and CR with a checksum rebuilt after a loss, and those where a load made the loss.
+    guessed: usize,
+    guessed_after_load: usize,
 }
 
 /// A file, with what has to be known when it is loaded: on each context number, how many packets had come to
@@ -933,6 +938,8 @@ struct List {
     passed: HashMap<u8, usize>,
     lost_in_a_row: HashMap<u8, usize>,
     saved: Vec<Saved>,
+    /// Context numbers whose last packets a load made lost, with none arrived since.
+    loaded: HashSet<u8>,
 }
 
 /// Whatever was rebuilt after a save is lost once that save's bytes are loaded. As long as no more than N in
@@ -952,6 +959,7 @@ fn run_list(mutant: Mutant, seed: u64, counts: &mut Counts) -> Outcome {
         passed: HashMap::new(),
         lost_in_a_row: HashMap::new(),
         saved: Vec::new(),
+        loaded: HashSet::new(),
         prng,
     };
     let steps = list.prng.pick(&[60, 200, 500]);
@@ -977,7 +985,14 @@ fn run_list(mutant: Mutant, seed: u64, counts: &mut Counts) -> Outcome {
 
 impl List {
     fn send(&mut self) -> Outcome {
-        let packet = next_packet(&mut self.prng, &mut self.flows, self.change);
+        let mut packet = next_packet(&mut self.prng, &mut self.flows, self.change);
+        keep_to_premise(
+            (self.ends.mutant, &self.ends.compressor),
+            &self.in_flight,
+            &self.lost_in_a_row,
+            self.repeats,
+            &mut packet,
+        );
         let found = self.ends.send(&packet, 1500)?;
         if found.number == 0 {
             self.in_flight.push_back(InFlight {
@@ -1002,9 +1017,20 @@ impl List {
         let mut lost = self.prng.chance(self.loss, 100);
         if let Some(place) = sent.place() {
             *self.passed.entry(place).or_insert(0) += 1;
-            let in_a_row = self.lost_in_a_row.entry(place).or_insert(0);
-            lost &= *in_a_row < self.repeats;
-            *in_a_row = if lost { *in_a_row + 1 } else { 0 };
+            let before = self.lost_in_a_row.get(&place).copied().unwrap_or(0);
+            // A wrong checksum cannot arrive after a loss.
+            let must_lose = before > 0 && sent.needs_the_one_before();
+            let row = row_of_losses(&self.in_flight, place, before + 1).0;
+            ensure("a loss that N allows", !must_lose || row <= self.repeats)?;
+            lost = must_lose || lost && row <= self.repeats;
+            let after = if lost { before + 1 } else { 0 };
+            self.lost_in_a_row.insert(place, after);
+            let carried = sent.packet[26..28] != [0, 0];
+            if !lost && before > 0 && carried && sent.link_type > 1 {
+                counts.guessed += 1;
+                counts.guessed_after_load += usize::from(self.loaded.contains(&place));
+            }
+            self.loaded.remove(&place);
         }
         if lost {
             counts.dropped += 1;
@@ -1052,7 +1078,11 @@ impl List {
             lost_in_a_row.insert(*place, before(&saved.lost_in_a_row, place) + since);
         }
         let most = lost_in_a_row.values().copied().max().unwrap_or(0);
-        if most > self.repeats {
+        // Packets on their way with a wrong checksum are lost with those before them.
+        let entailed = lost_in_a_row
+            .iter()
+            .map(|(place, lost)| row_of_losses(&self.in_flight, *place, *lost).0);
+        if entailed.max().unwrap_or(0) > self.repeats {
             return Ok(());
         }
         if self.prng.chance(1, 3) {
@@ -1061,6 +1091,11 @@ impl List {
             self.ends.decompressor = Table::unopened();
         }
         same("load", self.ends.load(&saved.bytes)?, 0)?;
+        let entailing = lost_in_a_row.iter().filter(|(place, lost)| {
+            let before = self.lost_in_a_row.get(place).copied().unwrap_or(0);
+            **lost > before
+        });
+        self.loaded.extend(entailing.map(|(place, _)| *place));
         self.lost_in_a_row = lost_in_a_row;
         counts.loads += 1;
         counts.lost_by_loads += lost_again;
@@ -1090,16 +1125,19 @@ fn many_lists_with_saves() {
     }
     println!(
         "lists with saves: {lists}, {} rebuilt, {} dropped, {} saves, {} loads, by which {} packets were lost again, \
-         {} times as many as N allows",
+         {} times as many as N allows; {} CU and CR with a checksum rebuilt after a loss, {} after one by a load",
         counts.rebuilt,
         counts.dropped,
         counts.saves,
         counts.loads,
         counts.lost_by_loads,
         counts.to_the_limit,
+        counts.guessed,
+        counts.guessed_after_load,
     );
     // The lists must really have held what they are meant to hold.
     assert!(counts.rebuilt > 100_000 && counts.dropped > 10_000);
     assert!(counts.saves > 20_000 && counts.loads > 10_000);
     assert!(counts.lost_by_loads > 10_000 && counts.to_the_limit > 1_000);
+    assert!(counts.guessed > 5_000 && counts.guessed_after_load > 1_000);
 }

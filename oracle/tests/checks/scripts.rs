@@ -1,6 +1,6 @@
 //! The text form of calls, and generated scripts: answers are well formed and agree with each other.
 
-use crate::support::hex;
+use crate::support::{hex, lines_of, same_for_the_same_seed, udp_checksum_wrong};
 use oracle::decompressor;
 use oracle::generate::Generator;
 use oracle::generate_endpoint;
@@ -289,6 +289,40 @@ fn worked_transcript_of_saves() {
     );
 }
 
+/// Checksums over a gap, at both tables and at the endpoint. The packets are those of `udp_checksums`: for sequence 12 21d0
+/// is right, for sequence 14 21ce.
+#[test]
+fn worked_transcript_of_checksums() {
+    transcript(
+        "or 1 1
+         0
+         r 1 45004500006440004011265d0a0000010a000002138c138e000077778000000a000003e811223344da7a 42
+         0 42 4500002a006440004011265d0a0000010a000002138c138e001677778000000a000003e811223344da7a
+         r 3 000221d0da7a 41
+         11 0 -
+         r 3 000221d0da7a 42
+         0 42 4500002a006640004011265b0a0000010a000002138c138e001621d08000000c000003e811223344da7a
+         r 3 000421cfda7a 0
+         12 0 -
+         dr 0
+         1 1 2 1 167772161 167772162 5004 5006 287454020 0 64 1 0 0 1 0 102 12 1000 0 0 15*0 1 0 2 5
+         r 3 000421ceda7a 42
+         8 0 -
+         p 5
+         0 5 0101008205
+         bo 1 1
+         0
+         br 1 45004500006440004011265d0a0000010a000002138c138e000077778000000a000003e811223344da7a 42
+         0 42 4500002a006440004011265d0a0000010a000002138c138e001677778000000a000003e811223344da7a
+         br 3 00020000da7a 42
+         12 0 -
+         bt
+         4*0 1 1
+         bp 5
+         0 5 0101008005",
+    );
+}
+
 #[test]
 fn lines_that_are_no_calls() {
     let mut runner = Runner::default();
@@ -460,6 +494,8 @@ struct Watch {
     in_flight: VecDeque<(String, String, String)>,
     lost_in_a_row: HashMap<u8, usize>,
     rebuilt: usize,
+    /// Watched arrivals with a checksum: without and after a loss, by right and wrong.
+    by_checksum: [[usize; 2]; 2],
     numbers: HashMap<String, usize>,
 }
 
@@ -479,7 +515,7 @@ impl Watch {
                 "s" => &[0, 1, 2, 11],
                 "q" => &[0, 1, 4, 5, 6],
                 "p" => &[0, 1, 11],
-                _ => &[0, 1, 2, 3, 4, 5, 6, 7, 8, 9, 10, 11],
+                _ => &[0, 1, 2, 3, 4, 5, 6, 7, 8, 9, 10, 11, 12],
             };
             assert!(allowed.contains(&number), "{line}: {answer}");
             *self.numbers.entry(format!("{call} {number}")).or_insert(0) += 1;
@@ -553,6 +589,9 @@ impl Watch {
         }
         let (link_type, bytes, packet) = self.in_flight.pop_front().expect("found above");
         let room: usize = words[3].parse().expect("a room");
+        if let Some(place) = place(&link_type, &bytes) {
+            self.see_checksum(place, &hex(&packet));
+        }
         if 2 * room < packet.len() {
             self.count_loss(&link_type, &bytes, repeats);
         } else if let Some(place) = place(&link_type, &bytes) {
@@ -567,6 +606,16 @@ impl Watch {
             let length = (packet.len() / 2).to_string();
             assert_eq!(parts, ["0", &length, &packet], "arrival {words:?}");
             self.rebuilt += 1;
+        }
+    }
+
+    /// After a loss only a right checksum or none may come, with room or without.
+    fn see_checksum(&mut self, place: u8, packet: &[u8]) {
+        let guessed = self.lost_in_a_row.get(&place).is_some_and(|&lost| lost > 0);
+        if guessed && udp_checksum_wrong(packet) {
+            self.repeats = None;
+        } else if self.repeats.is_some() && packet[26..28] != [0, 0] {
+            self.by_checksum[usize::from(guessed)][usize::from(udp_checksum_wrong(packet))] += 1;
         }
     }
 
@@ -592,26 +641,31 @@ fn place(link_type: &str, bytes: &str) -> Option<u8> {
 
 #[test]
 fn generated_scripts_agree_with_themselves() {
-    let mut rebuilt = 0;
+    let (mut rebuilt, mut near_right, mut near_wrong, mut guessed) = (0, 0, 0, 0);
     let mut calls = 0;
     let mut numbers: HashMap<String, usize> = HashMap::new();
     for seed in 0..12 {
-        let mut generator = Generator::new(seed, false);
         let mut runner = Runner::default();
         let mut watch = Watch::default();
-        for _ in 0..25_000 {
-            let line = generator.next_line();
+        for line in lines_of(Generator::new(seed, false), 25_000) {
             let answer = answer(&mut runner, &line);
             watch.see(&line, &answer);
             calls += 1;
         }
         rebuilt += watch.rebuilt;
+        near_right += watch.by_checksum[0][0];
+        near_wrong += watch.by_checksum[0][1];
+        guessed += watch.by_checksum[1][0];
         for (number, count) in watch.numbers {
             *numbers.entry(number).or_insert(0) += count;
         }
     }
-    println!("generated calls: {calls}, rebuilt under watch: {rebuilt}");
+    println!(
+        "generated calls: {calls}, rebuilt under watch: {rebuilt}; with a checksum and no loss before {near_right} right, \
+         {near_wrong} wrong, after a loss {guessed} right"
+    );
     assert!(rebuilt > 20_000, "only {rebuilt} arrivals were watched");
+    assert!(near_right > 5_000 && near_wrong > 300 && guessed > 1_000);
     // Every number of every call must come up.
     for (call, wanted) in [
         ("os", &[0, 1][..]),
@@ -619,7 +673,7 @@ fn generated_scripts_agree_with_themselves() {
         ("s", &[0, 1, 2, 11]),
         ("q", &[0, 1, 4, 5, 6]),
         ("p", &[0, 1, 11]),
-        ("r", &[0, 1, 2, 3, 4, 5, 6, 7, 8, 9, 10, 11]),
+        ("r", &[0, 1, 2, 3, 4, 5, 6, 7, 8, 9, 10, 11, 12]),
     ] {
         for number in wanted {
             let name = format!("{call} {number}");
@@ -696,7 +750,7 @@ impl EndpointWatch {
             "bo" => &[0, 1],
             "bw" => &[0, 1, 2, 11],
             "request" => &[0, 1, 4, 5, 6],
-            "arrival" => &[0, 1, 2, 3, 4, 5, 6, 7, 8, 9, 10, 11],
+            "arrival" => &[0, 1, 2, 3, 4, 5, 6, 7, 8, 9, 10, 11, 12],
             "bp" => &[0, 1, 11],
             _ => panic!("{line} is no call of an endpoint"),
         };
@@ -784,11 +838,9 @@ fn generated_endpoint_scripts_agree_with_themselves() {
     let (mut moved, mut stopped) = ([0; 6], [0; 6]);
     let (mut lines, mut shows, mut rebuilt) = (0, 0, 0);
     for seed in 0..12 {
-        let mut generator = generate_endpoint::Generator::new(seed);
         let mut runner = Runner::default();
         let mut watch = EndpointWatch::new();
-        for _ in 0..15_000 {
-            let line = generator.next_line();
+        for line in lines_of(generate_endpoint::Generator::new(seed), 15_000) {
             let answer = answer(&mut runner, &line);
             watch.see(&line, &answer);
             lines += 1;
@@ -833,7 +885,7 @@ fn generated_endpoint_scripts_agree_with_themselves() {
         ("bw", &[0, 1, 2, 11]),
         ("request", &[0, 1, 4, 5, 6]),
         ("bp", &[0, 1, 11]),
-        ("arrival", &[0, 1, 2, 3, 4, 5, 6, 7, 8, 9, 10, 11]),
+        ("arrival", &[0, 1, 2, 3, 4, 5, 6, 7, 8, 9, 10, 11, 12]),
     ] {
         for number in wanted {
             let name = format!("{call} {number}");
@@ -847,15 +899,10 @@ fn generated_endpoint_scripts_agree_with_themselves() {
 
 #[test]
 fn generated_endpoint_scripts_are_the_same_for_the_same_seed() {
-    let script = |seed: u64| -> Vec<String> {
-        let mut generator = generate_endpoint::Generator::new(seed);
-        (0..3000).map(|_| generator.next_line()).collect()
-    };
-    assert_eq!(script(5), script(5));
-    assert_ne!(script(5), script(6));
+    same_for_the_same_seed(generate_endpoint::Generator::new);
     // Only the endpoint's calls; lines that are no calls stand among them.
     let mut runner = Runner::default();
-    for line in script(5) {
+    for line in lines_of(generate_endpoint::Generator::new(5), 3000) {
         let call = line.split(' ').next().unwrap_or("");
         let known = matches!(call, "bo" | "bw" | "br" | "bp" | "bt" | "wt");
         assert!(answer(&mut runner, &line) == "?" || known, "{line}");
@@ -864,15 +911,10 @@ fn generated_endpoint_scripts_are_the_same_for_the_same_seed() {
 
 #[test]
 fn generated_scripts_are_the_same_for_the_same_seed() {
-    let script = |seed: u64, sender_only: bool| -> Vec<String> {
-        let mut generator = Generator::new(seed, sender_only);
-        (0..3000).map(|_| generator.next_line()).collect()
-    };
-    assert_eq!(script(5, false), script(5, false));
-    assert_ne!(script(5, false), script(6, false));
+    same_for_the_same_seed(|seed| Generator::new(seed, false));
     // Only the sender's calls when asked; lines that are no calls stand among them.
     let mut runner = Runner::default();
-    for line in script(5, true) {
+    for line in lines_of(Generator::new(5, true), 3000) {
         let call = line.split(' ').next().unwrap_or("");
         let known = matches!(call, "os" | "s" | "q" | "ws" | "ds");
         assert!(known || answer(&mut runner, &line) == "?", "{line}");
@@ -886,6 +928,7 @@ fn binaries_work_together() {
         &["3", "2000", "sender"],
         &["3", "2000", "box"],
         &["3", "2000", "saves"],
+        &["3", "2000", "checksums"],
     ] {
         binaries_agree(arguments);
     }

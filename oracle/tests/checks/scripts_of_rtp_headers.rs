@@ -2,7 +2,7 @@
 //! later packet shows what became of the difference, and how often a fault in that is noticed.
 
 use crate::scripts::answer;
-use crate::support::{hex, FILL};
+use crate::support::{hex, lines_of, FILL};
 use oracle::decompressor::{self, Status, Table};
 use oracle::generate::Generator;
 use oracle::mutant::Mutant;
@@ -185,12 +185,10 @@ impl Faulty {
 
 /// Counts of one script: what it held, and for each fault the answers that told it.
 fn watched(seed: u64) -> (Watch, Vec<Faulty>) {
-    let mut generator = Generator::new(seed, false);
     let mut runner = Runner::default();
     let mut watch = Watch::default();
     let mut faulty: Vec<Faulty> = FAULTS.map(Faulty::new).into();
-    for _ in 0..LINES {
-        let line = generator.next_line();
+    for line in lines_of(Generator::new(seed, false), LINES) {
         let before = runner.decompressor.clone();
         let answer = answer(&mut runner, &line);
         if answer == "?" {

@@ -2,7 +2,7 @@
 //! here, and they reach every place where a load can be refused, often enough.
 
 use crate::scripts::answer;
-use crate::support::{hex, FILL};
+use crate::support::{hex, lines_of, not_too_long, same_for_the_same_seed, FILL};
 use oracle::generate_saves::Generator;
 use oracle::mutant::Mutant;
 use oracle::saved::{self, parts_read, Part};
@@ -276,9 +276,9 @@ impl Watch {
         }
     }
 
-    /// Plain packets and refusals but 8 and 9 leave the table.
+    /// Plain packets and refusals but 8, 9 and 12 leave the table.
     fn see_arrival(&mut self, link_type: &str, number: &str) {
-        let leaves = number == "0" && link_type == "0" || !["0", "8", "9"].contains(&number);
+        let leaves = number == "0" && link_type == "0" || !["0", "8", "9", "12"].contains(&number);
         if !leaves {
             self.file = None;
         }
@@ -404,11 +404,9 @@ impl Watch {
 }
 
 fn watched(seed: u64, lines: usize) -> Watch {
-    let mut generator = Generator::new(seed);
     let mut runner = Runner::default();
     let mut watch = Watch::default();
-    for _ in 0..lines {
-        let line = generator.next_line();
+    for line in lines_of(Generator::new(seed), lines) {
         let answer = answer(&mut runner, &line);
         watch.see(&line, &answer);
     }
@@ -498,7 +496,7 @@ fn generated_saves_agree_with_themselves() {
         }
         often(&format!("{how}, longest"), 3);
     }
-    for number in [0, 1, 2, 3, 4, 5, 6, 7, 8, 9, 10, 11] {
+    for number in [0, 1, 2, 3, 4, 5, 6, 7, 8, 9, 10, 11, 12] {
         often(&format!("arrival {number}"), 1);
     }
 }
@@ -506,15 +504,13 @@ fn generated_saves_agree_with_themselves() {
 /// Each fault of saves and loads changes what some calls of a script do: their answers or the table.
 #[test]
 fn generated_saves_notice_every_fault() {
-    let mut generator = Generator::new(200);
     let mut runner = Runner::default();
     let faults = Mutant::ALL
         .into_iter()
         .skip_while(|fault| *fault != Mutant::SaveLosesCarried);
     let mut noticed: Vec<(Mutant, usize)> = faults.map(|fault| (fault, 0)).collect();
     assert_eq!(noticed.len(), 15);
-    for _ in 0..LINES {
-        let line = generator.next_line();
+    for line in lines_of(Generator::new(200), LINES) {
         let before = runner.decompressor.clone();
         let right = answer(&mut runner, &line);
         let (call, word) = line.split_once(' ').unwrap_or(("", ""));
@@ -550,19 +546,10 @@ fn script_hex(bytes: &[u8]) -> String {
 
 #[test]
 fn generated_saves_are_the_same_for_the_same_seed() {
-    let script = |seed: u64| -> Vec<String> {
-        let mut generator = Generator::new(seed);
-        (0..3000).map(|_| generator.next_line()).collect()
-    };
-    assert_eq!(script(5), script(5));
-    assert_ne!(script(5), script(6));
+    same_for_the_same_seed(Generator::new);
 }
 
-/// Scripts must stay short enough to be compared by the ten thousand.
 #[test]
 fn generated_saves_are_not_too_long() {
-    let mut generator = Generator::new(9);
-    let bytes: usize = (0..60_000).map(|_| generator.next_line().len() + 1).sum();
-    println!("60,000 lines of saves have {bytes} bytes");
-    assert!(bytes < 20_000_000);
+    not_too_long("saves", Generator::new(9));
 }

@@ -1,6 +1,7 @@
-//! Both ends under a chosen fault, packets built by hand, and small helpers.
+//! Both ends under a chosen fault, packets built by hand, checks of any generator, and small helpers.
 
 use oracle::mutant::Mutant;
+use oracle::planned::Planner;
 use oracle::refusal::Answer;
 use oracle::{compressor, decompressor, saved};
 
@@ -269,6 +270,14 @@ impl Voice {
         next
     }
 
+    /// The packet with the UDP checksum that is right for it.
+    pub fn summed(&self) -> Voice {
+        Voice {
+            udp_checksum: udp_checksum_of(&self.bytes()),
+            ..self.clone()
+        }
+    }
+
     pub fn bytes(&self) -> Vec<u8> {
         let total = 40 + 4 * self.csrc.len() + self.data.len();
         let mut bytes = vec![0x45, self.tos];
@@ -320,4 +329,49 @@ pub fn set_ip_checksum(bytes: &mut [u8]) {
     let checksum = 0xffff - sum as u16;
     bytes[10] = (checksum / 256) as u8;
     bytes[11] = (checksum % 256) as u8;
+}
+
+/// The UDP checksum that a packet should carry, folding after every addition.
+pub fn udp_checksum_of(packet: &[u8]) -> u16 {
+    let length = packet.len() as u32 - 20;
+    // Protocol and length of the pseudo-header; its addresses are summed below with the rest.
+    let mut sum = 17 + length;
+    for (at, byte) in packet.iter().enumerate().skip(12) {
+        if at == 26 || at == 27 {
+            continue;
+        }
+        sum += u32::from(*byte) * if at % 2 == 0 { 256 } else { 1 };
+        if sum > 0xffff {
+            sum -= 0xffff;
+        }
+    }
+    match 0xffff - sum as u16 {
+        0 => 0xffff,
+        checksum => checksum,
+    }
+}
+
+/// Whether the packet has a UDP checksum, and another than it should.
+pub fn udp_checksum_wrong(packet: &[u8]) -> bool {
+    let found = u16::from(packet[26]) * 256 + u16::from(packet[27]);
+    found != 0 && found != udp_checksum_of(packet)
+}
+
+/// The first lines of a generator's script.
+pub fn lines_of(mut generator: impl Planner, count: usize) -> impl Iterator<Item = String> {
+    (0..count).map(move |_| generator.next_line())
+}
+
+/// A script that shows something can be had again by its seed.
+pub fn same_for_the_same_seed<G: Planner>(generator: impl Fn(u64) -> G) {
+    let script = |seed: u64| -> Vec<String> { lines_of(generator(seed), 3000).collect() };
+    assert_eq!(script(5), script(5));
+    assert_ne!(script(5), script(6));
+}
+
+/// Scripts must stay short enough to be compared by the ten thousand.
+pub fn not_too_long(what: &str, generator: impl Planner) {
+    let bytes: usize = lines_of(generator, 60_000).map(|line| line.len() + 1).sum();
+    println!("60,000 lines of {what} have {bytes} bytes");
+    assert!(bytes < 20_000_000);
 }
