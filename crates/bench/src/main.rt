@@ -3,8 +3,10 @@
 // Without an argument it prints what went over the link, which is the same on every machine; with the argument `time` also
 // picoseconds a packet, best of nine rounds. The packets are described in `bench/README.md`: the second program makes the same.
 // Read `round` first; what is timed is in crate `bench_packets`.
+mod ends;
 mod round;
 mod show;
+mod through;
 
 use bench_shared::arguments::Asked;
 use bench_shared::arguments::arguments;

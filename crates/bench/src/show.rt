@@ -1,7 +1,7 @@
-use crate::round::Times;
+use crate::ends::Times;
+use crate::through::Ways;
 use bench_packets::tally::Tally;
 use bench_shared::figures::field;
-use bench_timed::through::Ways;
 
 // Picoseconds a packet.
 fn each(microseconds: u64) -> u64 {

@@ -3,14 +3,14 @@ ghost use Prim.Native.Nat.{_≤_};
 ghost use lib.ListN.{length};
 ghost use Rattle.packet.specs.Ranges.{Narrow};
 use bytes::put::put16;
-use crtp::Csrc;
-use crtp::Flow;
-use crtp::Ip;
-use crtp::Rtp;
 use headers_write::checksum::ip_checksum;
 use headers_write::udp::udp_checksum;
 use headers_write::write::put_header;
+use packet::csrc::Csrc;
+use packet::header::Flow;
 use packet::header::Header;
+use packet::header::Ip;
+use packet::header::Rtp;
 
 // The header of a packet so many steps after the first.
 fn header(steps: u16, checksum: u16) -> Header

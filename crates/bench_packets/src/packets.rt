@@ -2,11 +2,11 @@ ghost use mathlib.Core.Path.{_≡_};
 ghost use Prim.Native.Nat.{_≤_, _<_};
 ghost use lib.ListN.{length};
 ghost use Rattle.packet.specs.Ranges.{Narrow};
-use crtp::Csrc;
-use crtp::Flow;
-use crtp::Ip;
-use crtp::Rtp;
+use packet::csrc::Csrc;
+use packet::header::Flow;
 use packet::header::Header;
+use packet::header::Ip;
+use packet::header::Rtp;
 
 fn flow(j: u32) -> Flow {
     let port = 4000 + 2 * (j % 64);

@@ -46,39 +46,42 @@ pub fn given_by(o: crtp::CompressorOutcome) -> Given {
     }
 }
 
+fn send_one(w: &mut [u32], h: &mut [u16], b: &mut [u8], p: &[u8], out: &mut [u8]) -> Given {
+    let outcome = crtp::send(w, h, b, p, out);
+    given_by(outcome)
+}
+
+// The slices w, h and b are a compressor's table.
 pub fn send_all(
-    t: crtp::CompressorTable,
+    w: &mut [u32],
+    h: &mut [u16],
+    b: &mut [u8],
     packets: &[u8],
     links: &mut [u8],
     kinds: &mut [u8],
     lengths: &mut [usize],
-) -> crtp::CompressorTable {
+) {
     if packets.len() != 12800 {
-        return t;
+        return;
     }
     if links.len() != 12800 {
-        return t;
+        return;
     }
     if kinds.len() != 64 {
-        return t;
+        return;
     }
     if lengths.len() != 64 {
-        return t;
+        return;
     }
-    let mut table = t;
     let mut i = 0;
     while i < 64 {
         let at = 200 * i;
         let end = at + 200;
-        let answer = crtp::send(table, &packets[at..end], &mut links[at..end]);
-        let outcome = answer.outcome;
-        let g = given_by(outcome);
+        let g = send_one(w, h, b, &packets[at..end], &mut links[at..end]);
         kinds[i] = g.kind;
         lengths[i] = g.length;
-        table = answer.table;
         i += 1;
     }
-    table
 }
 
 pub fn wide(b: u8) -> u32 {
@@ -92,37 +95,37 @@ pub fn within(n: usize) -> usize
     if n < 200 { n } else { 200 }
 }
 
+// The slices w, h and b are a decompressor's table.
 pub fn receive_all(
-    t: crtp::DecompressorTable,
+    w: &mut [u32],
+    h: &mut [u16],
+    b: &mut [u8],
     links: &[u8],
     kinds: &[u8],
     lengths: &[usize],
     rebuilt: &mut [u8],
-) -> crtp::DecompressorTable {
+) {
     if links.len() != 12800 {
-        return t;
+        return;
     }
     if rebuilt.len() != 12800 {
-        return t;
+        return;
     }
     if kinds.len() != 64 {
-        return t;
+        return;
     }
     if lengths.len() != 64 {
-        return t;
+        return;
     }
-    let mut table = t;
     let mut i = 0;
     while i < 64 {
         let at = 200 * i;
         let end = at + 200;
         let past = at + within(lengths[i]);
         let kind = wide(kinds[i]);
-        let answer = crtp::receive(table, kind, &links[at..past], &mut rebuilt[at..end]);
-        table = answer.table;
+        crtp::receive(w, h, b, kind, &links[at..past], &mut rebuilt[at..end]);
         i += 1;
     }
-    table
 }
 
 // The floor: the same bytes, copied.

@@ -4,47 +4,36 @@ use bench_packets::turns::send_all;
 use bench_shared::clock::now;
 use bench_shared::clock::passed;
 
-// The sends of a batch, and the microseconds that they took.
-pub struct Sent {
-    pub table: crtp::CompressorTable,
-    pub time: u64,
-}
-
+// The sends of a batch at the compressor whose table is w, h and b: the microseconds that they took.
 pub fn send_timed(
-    t: crtp::CompressorTable,
+    w: &mut [u32],
+    h: &mut [u16],
+    b: &mut [u8],
     packets: &[u8],
     links: &mut [u8],
     kinds: &mut [u8],
     lengths: &mut [usize],
-) -> Sent {
+) -> u64 {
     let from = now();
-    let after = send_all(t, packets, links, kinds, lengths);
+    send_all(w, h, b, packets, links, kinds, lengths);
     let to = now();
-    Sent {
-        table: after,
-        time: passed(from, to),
-    }
+    passed(from, to)
 }
 
-pub struct Received {
-    pub table: crtp::DecompressorTable,
-    pub time: u64,
-}
-
+// The same of a decompressor.
 pub fn receive_timed(
-    t: crtp::DecompressorTable,
+    w: &mut [u32],
+    h: &mut [u16],
+    b: &mut [u8],
     links: &[u8],
     kinds: &[u8],
     lengths: &[usize],
     rebuilt: &mut [u8],
-) -> Received {
+) -> u64 {
     let from = now();
-    let after = receive_all(t, links, kinds, lengths, rebuilt);
+    receive_all(w, h, b, links, kinds, lengths, rebuilt);
     let to = now();
-    Received {
-        table: after,
-        time: passed(from, to),
-    }
+    passed(from, to)
 }
 
 pub fn copy_timed(packets: &[u8], copies: &mut [u8]) -> u64 {

@@ -1,4 +1,3 @@
-use crate::table::Table;
 use packet::refusal::Refusal;
 
 // What became of a call: accepted with the link type and the length of what it gave out, or refused.
@@ -7,10 +6,4 @@ use packet::refusal::Refusal;
 pub enum Outcome {
     Accepted(u8, usize),
     Refused(Refusal),
-}
-
-// The outcome, with the table that the call leaves. (An enum cannot hold the table's array.)
-pub struct Answer {
-    pub outcome: Outcome,
-    pub table: Table,
 }

@@ -1,7 +1,7 @@
-// The compressing end: a table of contexts, and what the calls on it mean.
+// The compressing end: a table of contexts, and what the calls on it mean. No function: definitions and their laws.
 //
-// Each call takes the table by value and hands it back beside its answer; any table and any bytes may be handed in. Soundness,
-// opening and the lookup of a flow's context are code here; the calls `send` and `request` have a crate each above.
+// Here a table is a value. The calls take it in the caller's memory: `compressor_table` says which table three slices hold, and
+// `compressor_walk`, `send` and `request` have the calls, each equal to its definition here.
 // Read `specs/Send.antt` first: `sendOf` says all that a send does.
 pub mod answer;
 pub mod lookup;

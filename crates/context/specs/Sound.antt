@@ -1,6 +1,6 @@
 -- Iarwennol. Soundness of one context at each end.
 -- Tests, one line for each field (rules 2.3, 2.4); n is the repeats.
--- Used by soundness, whose code equals them, and by the soundness of the tables above.
+-- Used by the soundness of the tables above, which the walks over their planes equal.
 use Prim.Native.Nat.{ℕ, _+_, _%_}
 use mathlib.Core.Bool.{Bool, false, cond, not, _&&_}
 use mathlib.Core.List.{List}

@@ -1,3 +1,4 @@
+pub mod FaceLaws
 pub mod Face
 pub mod Robust
 pub mod Unsaved

@@ -61,11 +61,11 @@ module _ (k : ℕ) (s : List ℕ) (a : AllBytes s) (e : fhJudged k s ≡ 0) wher
 module _ (before after : Table) (bytes output : List ℕ) where
   -- as a call says it
   pub said-noRoom : length output < length bytes
-      → said (record { outcome = Refused NoRoom; table = before }) output ≡ delivered before after bytes output
+      → said (Refused NoRoom) before output ≡ delivered before after bytes output
   said-noRoom h = rw (lt-ltb (length output) (length bytes) h)
 
   pub said-accepted : (m : ℕ) (out : List ℕ) → length bytes ≤ length output → m ≡ length bytes → out ≡ fronted output bytes
-      → said (record { outcome = Accepted m; table = after }) out ≡ delivered before after bytes output
+      → said (Accepted m) after out ≡ delivered before after bytes output
   said-accepted m out h e w = rw (le-ltb (length output) (length bytes) h)
       (λ j. record { number = 0; length = e j; output = w j; table = after })
 

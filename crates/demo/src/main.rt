@@ -4,6 +4,7 @@
 // is as many as both endpoints are opened for: what comes after them is rebuilt all the same. Once three are: the desk refuses what
 // comes next, its report goes back over the radio, and the arm sends full headers again. The other direction is not disturbed.
 // Read `run::half_turn` first.
+mod place;
 mod run;
 mod show;
 mod stream;
@@ -13,10 +14,8 @@ fn main() {
         b"each turn arm and desk send a packet of speech; both are opened for 2 packets lost in a row\n",
     );
     show::text(b"not shown: packets that go as CR and are rebuilt exactly\n");
-    let first = endpoint::open(endpoint::closed(), 2, 4);
-    let second = endpoint::open(endpoint::closed(), 2, 4);
-    let arm = first.endpoint;
-    let desk = second.endpoint;
+    let arm = place::opened(2, 4);
+    let desk = place::opened(2, 4);
     let none = show::Count {
         sent: 0,
         lost: 0,
@@ -44,7 +43,9 @@ fn main() {
     let one = link.sender;
     let other = link.receiver;
     show::text(b"arm:  ");
-    show::print_totals(one.totals);
+    let totals = one.totals;
+    show::print_totals(totals);
     show::text(b"desk: ");
-    show::print_totals(other.totals);
+    let totals = other.totals;
+    show::print_totals(totals);
 }

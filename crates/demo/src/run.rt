@@ -1,3 +1,5 @@
+use crate::place;
+use crate::place::Place;
 use crate::show::Count;
 use crate::show::Crossing;
 use crate::show::Fate;
@@ -7,14 +9,13 @@ use crate::stream::PAYLOAD;
 use crate::stream::ROOM;
 use crate::stream::is_lost;
 use crate::stream::put_packet;
-use endpoint::Endpoint;
 use endpoint::Outcome;
 
 // One direction of the radio link: who sends, who receives, and what was counted of it; back is what was counted of the other one.
 pub struct Link {
     pub from_arm: bool,
-    pub sender: Endpoint,
-    pub receiver: Endpoint,
+    pub sender: Place,
+    pub receiver: Place,
     pub count: Count,
     pub back: Count,
 }
@@ -30,33 +31,33 @@ fn front<'a>(s: &'a [u8; ROOM], n: usize) -> &'a [u8] {
 
 // What an arrival left, and what became of the packet.
 struct Arrived {
-    endpoint: Endpoint,
+    place: Place,
     fate: Fate,
 }
 
 // A link packet that stands for p comes from the radio, or is lost.
-fn receive(e: Endpoint, lost: bool, kind: u8, link: &[u8], p: &[u8]) -> Arrived {
+fn receive(e: Place, lost: bool, kind: u8, link: &[u8], p: &[u8]) -> Arrived {
     if lost {
         return Arrived {
-            endpoint: e,
+            place: e,
             fate: Fate::Lost,
         };
     }
     let mut out = [0u8; ROOM];
-    let answer = endpoint::from_radio(e, kind as u32, link, &mut out);
-    let after = answer.endpoint;
+    let answer = place::from_radio(e, kind as u32, link, &mut out);
+    let after = answer.place;
     let outcome = answer.outcome;
     match outcome {
         Outcome::Rebuilt(n) => Arrived {
-            endpoint: after,
+            place: after,
             fate: Fate::Rebuilt(check::same(front(&out, n), p)),
         },
         Outcome::Refused(r) => Arrived {
-            endpoint: after,
+            place: after,
             fate: Fate::Refused(r),
         },
         _ => Arrived {
-            endpoint: after,
+            place: after,
             fate: Fate::Rebuilt(false),
         },
     }
@@ -84,9 +85,9 @@ fn carry(l: Link, turn: u8) -> Link {
     let before = (length - PAYLOAD) as u32;
     let p = front(&packet, length);
     let sender = l.sender;
-    let sent = endpoint::from_wire(sender, p, &mut link);
+    let sent = place::from_wire(sender, p, &mut link);
     let mut next = l;
-    let one = sent.endpoint;
+    let one = sent.place;
     next.sender = one;
     let outcome = sent.outcome;
     let Outcome::Sent(kind, linked) = outcome else {
@@ -109,7 +110,7 @@ fn carry(l: Link, turn: u8) -> Link {
     if (kind < 3) | (new.exact == old.exact) {
         print_crossing(crossing);
     }
-    let other = arrived.endpoint;
+    let other = arrived.place;
     next.receiver = other;
     next.count = new;
     next
@@ -122,9 +123,9 @@ fn report(l: Link, turn: u8) -> Link {
     }
     let mut out = [0u8; ROOM];
     let receiver = l.receiver;
-    let said = endpoint::report(receiver, &mut out);
+    let said = place::report(receiver, &mut out);
     let mut next = l;
-    let other = said.endpoint;
+    let other = said.place;
     next.receiver = other;
     let outcome = said.outcome;
     let Outcome::Reported(n) = outcome else {
@@ -136,13 +137,13 @@ fn report(l: Link, turn: u8) -> Link {
     print_report(turn, l.from_arm, n);
     let mut nothing = [0u8; 1];
     let sender = l.sender;
-    let asked = endpoint::from_radio(
+    let asked = place::from_radio(
         sender,
         endpoint::CONTEXT_STATE,
         front(&out, n),
         &mut nothing,
     );
-    let one = asked.endpoint;
+    let one = asked.place;
     next.sender = one;
     next
 }

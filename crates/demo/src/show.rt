@@ -121,17 +121,17 @@ pub fn print_count(from_arm: bool, c: Count) {
     text(b" on the link\n");
 }
 
-pub fn print_totals(t: Totals) {
-    column(t.plain);
+pub fn print_totals(t: [u32; Totals::COUNT]) {
+    column(t[0]);
     text(b" plain, ");
-    column(t.full);
+    column(t[1]);
     text(b" FH, ");
-    column(t.udp);
+    column(t[2]);
     text(b" CU, ");
-    column(t.rtp);
+    column(t[3]);
     text(b" CR sent; ");
-    column(t.rebuilt);
+    column(t[4]);
     text(b" rebuilt; ");
-    column(t.refused);
+    column(t[5]);
     text(b" refused\n");
 }

@@ -21,46 +21,46 @@ abbrev pub receiver : Endpoint → DecompressorTable → Outcome → Endpoint
 receiver e t o = record { compressor = e .compressor; decompressor = t; totals = tallied (e .totals) (eventOf o) }
 
 abbrev pub answer : Outcome → Endpoint → (output : List ℕ) → Result
-answer o e output = said (record { outcome = o; endpoint = e }) output
+answer o e output = said o e output
 
 -- x, y: what the definition of crtp's call says
 module _ (e : Endpoint) (output : List ℕ) where
   module _ (t : CompressorTable) where
     sent-by : (o : CompressorOutcome)
-        → answer (sentOf o) (sender e t (sentOf o)) output ≡ sentBy e (crtp.sending.said (record { outcome = o; table = t }) output)
+        → answer (sentOf o) (sender e t (sentOf o)) output ≡ sentBy e (crtp.sending.said o t output)
     sent-by (CompressorOutcome.Accepted k n) = refl
     sent-by (CompressorOutcome.Refused r) = rw (refusalNumber-refused r)
 
     requested-by : (o : CompressorOutcome)
         → answer (requestedOf o) (sender e t (requestedOf o)) output
-        ≡ requestedBy e output (crtp.sending.said (record { outcome = o; table = t }) [])
+        ≡ requestedBy e output (crtp.sending.said o t [])
     requested-by (CompressorOutcome.Accepted k n) = refl
     requested-by (CompressorOutcome.Refused r) = rw (refusalNumber-refused r)
 
     module _ (o : CompressorOutcome) (x : crtp.sending.Result) where
-      pub said-sent : crtp.sending.said (record { outcome = o; table = t }) output ≡ x
+      pub said-sent : crtp.sending.said o t output ≡ x
           → answer (sentOf o) (sender e t (sentOf o)) output ≡ sentBy e x
       said-sent q = sent-by o ∙ ap (sentBy e) q
 
-      pub said-requested : crtp.sending.said (record { outcome = o; table = t }) [] ≡ x
+      pub said-requested : crtp.sending.said o t [] ≡ x
           → answer (requestedOf o) (sender e t (requestedOf o)) output ≡ requestedBy e output x
       said-requested q = requested-by o ∙ ap (requestedBy e output) q
 
   module _ (t : DecompressorTable) where
     rebuilt-by : (o : DecompressorOutcome)
         → answer (rebuiltOf o) (receiver e t (rebuiltOf o)) output
-        ≡ answeredBy rebuilt e (crtp.receiving.said (record { outcome = o; table = t }) output)
+        ≡ answeredBy rebuilt e (crtp.receiving.said o t output)
     rebuilt-by (DecompressorOutcome.Accepted n) = refl
     rebuilt-by (DecompressorOutcome.Refused r) = rw (refusalNumber-refused r)
 
     reported-by : (o : DecompressorOutcome)
         → answer (reportedOf o) (receiver e t (reportedOf o)) output
-        ≡ answeredBy quiet e (crtp.receiving.said (record { outcome = o; table = t }) output)
+        ≡ answeredBy quiet e (crtp.receiving.said o t output)
     reported-by (DecompressorOutcome.Accepted n) = refl
     reported-by (DecompressorOutcome.Refused r) = rw (refusalNumber-refused r)
 
     module _ (o : DecompressorOutcome) (y : crtp.receiving.Result)
-        (q : crtp.receiving.said (record { outcome = o; table = t }) output ≡ y) where
+        (q : crtp.receiving.said o t output ≡ y) where
       pub said-rebuilt : answer (rebuiltOf o) (receiver e t (rebuiltOf o)) output ≡ answeredBy rebuilt e y
       said-rebuilt = rebuilt-by o ∙ ap (answeredBy rebuilt e) q
 
@@ -71,8 +71,8 @@ module _ (e : Endpoint) (output : List ℕ) where
 module _ (e : Endpoint) (t : CompressorTable) (d : DecompressorTable) where
   abbrev pub opening : CompressorOutcome → DecompressorOutcome → Result
   opening x y =
-      openBy e (crtp.sending.said (record { outcome = x; table = t }) [])
-      (crtp.receiving.said (record { outcome = y; table = d }) [])
+      openBy e (crtp.sending.said x t [])
+      (crtp.receiving.said y d [])
 
   pub said-opened : (x : CompressorOutcome) (y : DecompressorOutcome) → isAccepted (openedOf x y) ≡ true
       → answer (openedOf x y) (record { compressor = t; decompressor = d; totals = noTotals }) [] ≡ opening x y

@@ -6,7 +6,6 @@ use Rattle.crtp.specs.Face.{refusalNumber}
 use Rattle.endpoint.specs.declared.answer.Outcome.{Outcome}
 use Rattle.endpoint.specs.declared.answer.Outcome.the-variants.{Opened, Sent, Rebuilt, Requested, Reported, Refused}
 use Rattle.endpoint.specs.declared.answer.Endpoint.{Endpoint}
-use Rattle.endpoint.specs.declared.answer.Answer.{Answer}
 
 -- rules 3.1, 13.3: number (0: accepted), link type and length of what was given out, the output and the endpoint after the call
 pub record Result : Type 0 where
@@ -45,12 +44,6 @@ lengthOf Requested = 0
 lengthOf (Reported n) = n
 lengthOf (Refused r) = 0
 
--- what a call's answer says, with the output that it left
-abbrev pub said : Answer → (output : List ℕ) → Result
-said a output = record {
-  number = numberOf (a .outcome);
-  kind = typeOf (a .outcome);
-  length = lengthOf (a .outcome);
-  output = output;
-  endpoint = a .endpoint;
-}
+-- what a call says that answered this, and left this endpoint and this output
+abbrev pub said : Outcome → Endpoint → (output : List ℕ) → Result
+said o e output = record { number = numberOf o; kind = typeOf o; length = lengthOf o; output = output; endpoint = e }

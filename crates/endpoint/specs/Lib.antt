@@ -3,5 +3,7 @@ pub mod TotalsLaws
 pub mod Answer
 pub mod Outcomes
 pub mod Calls
+pub mod Lent
+pub mod LentLaws
 pub mod History
 pub mod Facing

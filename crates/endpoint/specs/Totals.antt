@@ -2,7 +2,9 @@
 -- Used by the definition of every call of an endpoint, and by the statement on histories.
 use Prim.Native.Nat.{ℕ, suc}
 use mathlib.Core.Bool.{Bool, true, false, cond, not, _&&_}
+use mathlib.Core.List.{List}
 use lib.Dec.{eqb, ltb}
+use lib.ListN.{getD}
 use Rattle.crtp.specs.Face.{plain, fullHeader, compressedUdp, compressedRtp, unsound}
 use Rattle.endpoint.specs.declared.totals.Totals.{Totals}
 
@@ -34,6 +36,17 @@ isRefused (sent kind) = false
 isRefused rebuilt = false
 isRefused (refused n) = not (eqb n unsound)
 isRefused quiet = false
+
+-- the totals that a list of six numbers holds
+abbrev pub totalsOf : List ℕ → Totals
+totalsOf l = record {
+  plain = getD l 0 0;
+  full = getD l 1 0;
+  udp = getD l 2 0;
+  rtp = getD l 3 0;
+  rebuilt = getD l 4 0;
+  refused = getD l 5 0;
+}
 
 -- rule 13.5: where a total stops
 abbrev pub last : ℕ

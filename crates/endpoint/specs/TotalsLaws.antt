@@ -3,16 +3,17 @@
 use Prim.Native.Nat.{ℕ, suc, _+_, _≤_, _<_}
 use mathlib.Core.Path.{_≡_, refl, sym, subst}
 use mathlib.Core.Bool.{Bool, true, false, cond}
-use mathlib.Core.List.{List}
+use mathlib.Core.List.{List, [], _∷_}
 use native.Mathlib.Omega.{arith}
 use native.Mathlib.Decide.{decLe}
 use borrow.Author.Tests.{le-leb, leb-true, lt-ltb, le-ltb}
 use lib.Dec.{eqb, leb}
+use lib.ListN.{length, set}
 use Rattle.crtp.specs.Face as crtp
 use Rattle.crtp.specs.Face.{plain, fullHeader, compressedUdp, compressedRtp, receiveOf, requestOf}
 use Rattle.endpoint.specs.declared.totals.Totals.{Totals}
 use Rattle.endpoint.specs.declared.answer.Endpoint.{Endpoint}
-use Rattle.endpoint.specs.Totals.{Event, rebuilt, quiet, isSent, isRebuilt, isRefused, last, more, tallied}
+use Rattle.endpoint.specs.Totals.{Event, rebuilt, quiet, isSent, isRebuilt, isRefused, last, more, tallied, totalsOf}
 use Rattle.endpoint.specs.Calls.{judged, contextState, requestedBy, answeredBy, wireOf, radioOf, reportOf}
 use Rattle.endpoint.specs.History.{Call, wire, radio, report, answer, eventOf, stopped}
 
@@ -95,3 +96,23 @@ pub moved-call : (e : Endpoint) (x : Call) → Fits (e .totals)
 moved-call e x f =
     let event = eventOf x (answer e x) in
     subst (Moved (e .totals) event) (sym (totals-call e x)) (moved-tallied (e .totals) event f)
+
+---- totals in a slice
+
+six : (l : List ℕ) → length l ≡ 6 → (P : List ℕ → Type 0) → ((a b c d e f : ℕ) → P (a ∷ b ∷ c ∷ d ∷ e ∷ f ∷ [])) → P l
+six [] h P k = absurd (omega arith)
+six (a ∷ []) h P k = absurd (omega arith)
+six (a ∷ b ∷ []) h P k = absurd (omega arith)
+six (a ∷ b ∷ c ∷ []) h P k = absurd (omega arith)
+six (a ∷ b ∷ c ∷ d ∷ []) h P k = absurd (omega arith)
+six (a ∷ b ∷ c ∷ d ∷ e ∷ []) h P k = absurd (omega arith)
+six (a ∷ b ∷ c ∷ d ∷ e ∷ f ∷ []) h P k = k a b c d e f
+six (a ∷ b ∷ c ∷ d ∷ e ∷ f ∷ g ∷ l) h P k = absurd (omega arith)
+
+-- six numbers stored one after another
+abbrev pub stored : List ℕ → Totals → List ℕ
+stored l x = set (set (set (set (set (set l 0 (x .plain)) 1 (x .full)) 2 (x .udp)) 3 (x .rtp)) 4 (x .rebuilt)) 5 (x .refused)
+
+pub stored-totals : (l : List ℕ) (x : Totals) → length l ≡ 6 → (length (stored l x) ≡ 6) × (totalsOf (stored l x) ≡ x)
+stored-totals l x h =
+    six l h (λ (k : List ℕ). (length (stored k x) ≡ 6) × (totalsOf (stored k x) ≡ x)) (λ a b c d e f. (refl, refl))

@@ -13,8 +13,8 @@ use crtp::Refusal;
 
 // Both ends of a link in one place, and what they did since they were opened.
 //
-// The totals stand between the tables because that order cost least in the benchmark, whose caller it spared a copy of the table
-// that a call leaves alone (docs/PERFORMANCE.md). It is no promise to other callers.
+// This is the endpoint that definitions speak of. Calls have it in slices of the caller's: three for each table, one for the
+// totals.
 pub struct Endpoint {
     pub compressor: CompressorTable,
     pub totals: Totals,
@@ -32,13 +32,6 @@ pub enum Outcome {
     Requested,
     Reported(usize),
     Refused(Refusal),
-}
-
-// The endpoint that the call leaves, with the outcome. The outcome stands last because that cost least in the benchmark: with the
-// outcome first a copy there met a slow case of the machine's memory copy (docs/PERFORMANCE.md). Another caller may meet it too.
-pub struct Answer {
-    pub endpoint: Endpoint,
-    pub outcome: Outcome,
 }
 
 // An opening of both: the compressor's refusal stands before the decompressor's.

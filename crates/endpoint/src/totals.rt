@@ -1,8 +1,9 @@
 ghost use mathlib.Core.Path.{_≡_};
 ghost use mathlib.Core.Bool.{not};
 ghost use lib.Dec.{eqb};
+ghost use lib.ListN.{length};
 ghost use Rattle.crtp.specs.Face.{refusalNumber, unsound};
-ghost use Rattle.endpoint.specs.Totals.{noTotals, more};
+ghost use Rattle.endpoint.specs.Totals.{more, totalsOf};
 use crtp::Refusal;
 
 // What an endpoint did since it was opened: packets that it sent plain, as FULL_HEADER, COMPRESSED_UDP and COMPRESSED_RTP; packets
@@ -17,21 +18,38 @@ pub struct Totals {
 }
 
 impl Totals {
+    // How many there are, and so how long the slice is that holds them, in the order above.
+    pub const COUNT: usize = 6;
+
     // Where a total stops.
     pub const LAST: u32 = 4_294_967_295;
 }
 
-pub fn nothing() -> Totals
-    ensures { λ r. ⌜ r ≡ noTotals ⌝ }
+// The totals that a slice holds.
+pub fn totals_at(t: &[u32]) -> Totals
+    requires { ⌜ length (now t) ≡ 6 ⌝ }
+    ensures { λ r. ⌜ r ≡ totalsOf (now (t .entry)) ⌝ }
 {
     Totals {
-        plain: 0,
-        full: 0,
-        udp: 0,
-        rtp: 0,
-        rebuilt: 0,
-        refused: 0,
+        plain: t[0],
+        full: t[1],
+        udp: t[2],
+        rtp: t[3],
+        rebuilt: t[4],
+        refused: t[5],
     }
+}
+
+pub fn put_totals(t: &mut [u32], x: Totals)
+    requires { ⌜ length (now t) ≡ 6 ⌝ }
+    ensures { λ _. ⌜ (length (now (t .exit)) ≡ 6) × (totalsOf (now (t .exit)) ≡ x) ⌝ }
+{
+    t[0] = x.plain;
+    t[1] = x.full;
+    t[2] = x.udp;
+    t[3] = x.rtp;
+    t[4] = x.rebuilt;
+    t[5] = x.refused;
 }
 
 // A total, where something counts in it or does not.

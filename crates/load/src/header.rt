@@ -9,12 +9,14 @@ use headers_read::place::count_at;
 use headers_read::place::word_at;
 use headers_read::read::read_header;
 use headers_read::read::size_with;
+use packet::header::Flow;
 use packet::header::Header;
+use packet::header::Ip;
+use packet::header::Rtp;
 use packet::refusal::Refusal;
 use packet::refusal::Verdict;
 use packet::refusal::is_accepted;
 use saves::read::GotHeader;
-use soundness::shared;
 
 // Whether a part has the form of a header that a save writes.
 fn kept_form(size: usize, p: &[u8]) -> bool
@@ -38,16 +40,30 @@ fn kept_form(size: usize, p: &[u8]) -> bool
 fn no_header(p: Place) -> GotHeader
     ensures { λ r. ⌜ r ≡ record { place = p; header = noHeader } ⌝ }
 {
-    let flow = shared::no_flow();
-    let ip = shared::no_ip();
-    let rtp = shared::no_rtp();
     let csrc = packet::csrc::no_list();
     GotHeader {
         place: p,
         header: Header {
-            flow: flow,
-            ip: ip,
-            rtp: rtp,
+            flow: Flow {
+                source: 0,
+                destination: 0,
+                sport: 0,
+                dport: 0,
+                ssrc: 0,
+            },
+            ip: Ip {
+                tos: 0,
+                ttl: 0,
+                flags: 0,
+                id: 0,
+            },
+            rtp: Rtp {
+                padding: false,
+                extension: false,
+                payload: 0,
+                sequence: 0,
+                timestamp: 0,
+            },
             csrc: csrc,
             marker: false,
             checksum: 0,

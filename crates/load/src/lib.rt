@@ -1,29 +1,34 @@
 // A load: the decompressor's table that some bytes stand for.
 //
-// The bytes alone are judged, never the table that was there, so a load is what takes up a decompressor again that holds nothing.
-// The layout is `saves`': read its `specs/Saves.antt` first, where `loadOf` says all that a load does; each function here equals
-// one of its definitions.
+// The bytes alone are judged, never what the slices hold that the table is put into, so a load is what takes up a decompressor
+// again that holds nothing. A load that is refused touches no number of them.
+// The layout is `saves`': read its `specs/Saves.antt` first, where `loadOf` says all that a load does; the functions here equal
+// its definitions one by one.
 pub mod check;
 pub mod front;
 pub mod header;
 pub mod record;
+pub mod store;
 
 ghost use mathlib.Core.Path.{_≡_};
 ghost use mathlib.Core.List.{[]};
 ghost use Prim.Native.Nat.{_≤_};
-ghost use Rattle.decompressor.specs.Answer.{said};
-ghost use Rattle.saves.specs.Saves.{recordsOf, settled, loadOf};
+ghost use Rattle.planes.specs.Planes.{lent};
+ghost use Rattle.decompressor_table.specs.Calls.{Gives};
+ghost use Rattle.saves.specs.Saves.{recordsOf};
+ghost use Rattle.load.specs.Load.{loadLent};
 use crate::check::allow;
 use crate::front::read_front;
 use crate::record::read_record;
-use decompressor::answer::Answer;
+use crate::store::empty_context;
+use crate::store::settle;
 use decompressor::answer::Outcome;
-use decompressor::table::Table;
+use decompressor_table::layout::Layout;
 use fields::place::Place;
+use packet::refusal::Refusal;
 use packet::refusal::Verdict;
 use saves::read::GotContexts;
 use settings::Settings;
-use soundness::decompressor::empty_context;
 
 // The first n contexts; those past them are empty.
 fn read_records(s: &[u8], p: Place, n: u8) -> GotContexts
@@ -47,26 +52,18 @@ fn read_records(s: &[u8], p: Place, n: u8) -> GotContexts
     }
 }
 
-// What the reading came to: the new table, or the one that was there, whatever it holds.
-fn settle(t: Table, p: Place, new: Table) -> Answer
-    ensures { λ r. ⌜ said r [] ≡ settled t p new ⌝ }
+// Slices of other lengths hold no table, and get none.
+pub fn load(w: &mut [u32], h: &mut [u16], b: &mut [u8], s: &[u8]) -> Outcome
+    ensures { λ r. ⌜ Gives (lent (now (w .entry)) (now (h .entry)) (now (b .entry)))
+        (lent (now (w .exit)) (now (h .exit)) (now (b .exit))) r []
+        (loadLent (lent (now (w .entry)) (now (h .entry)) (now (b .entry))) (now (s .entry))) ⌝ }
 {
-    let found = p.verdict;
-    match found {
-        Verdict::Accepted => Answer {
-            outcome: Outcome::Accepted(0),
-            table: new,
-        },
-        Verdict::Refused(why) => Answer {
-            outcome: Outcome::Refused(why),
-            table: t,
-        },
+    let sized = (w.len() == Layout::WORDS)
+        & (h.len() == Layout::SHORTS)
+        & (b.len() == Layout::BYTES);
+    if !sized {
+        return Outcome::Refused(Refusal::Unsound);
     }
-}
-
-pub fn load(t: Table, s: &[u8]) -> Answer
-    ensures { λ r. ⌜ said r [] ≡ loadOf t (now (s .entry)) ⌝ }
-{
     let front = read_front(s);
     let place = front.place;
     let found = place.verdict;
@@ -77,18 +74,8 @@ pub fn load(t: Table, s: &[u8]) -> Answer
             let last = records.place;
             let contexts = records.contexts;
             let end = allow(last, last.cursor.at == s.len());
-            settle(
-                t,
-                end,
-                Table {
-                    settings: settings,
-                    contexts: contexts,
-                },
-            )
+            settle(w, h, b, end, settings, contexts)
         }
-        Verdict::Refused(why) => Answer {
-            outcome: Outcome::Refused(why),
-            table: t,
-        },
+        Verdict::Refused(why) => Outcome::Refused(why),
     }
 }

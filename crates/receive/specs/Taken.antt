@@ -4,7 +4,7 @@ use Prim.Native.Nat.{ℕ, _≤_, _<_}
 use mathlib.Core.Path.{_≡_}
 use mathlib.Core.Bool.{true}
 use mathlib.Core.List.{List}
-use lib.ListN.{length}
+use lib.ListN.{length, drop}
 use Rattle.codes.specs.Numbers.{notLive}
 use Rattle.links.specs.declared.head.Head.{Head}
 use Rattle.context.specs.Decompressor.{broke}
@@ -12,7 +12,10 @@ use Rattle.context.specs.Sound.{soundDecompressor}
 use Rattle.context.specs.declared.decompressor.DecompressorContext.{DecompressorContext}
 use Rattle.decompressor.specs.declared.table.Table.{Table}
 use Rattle.receive.specs.declared.settle.Taken.{Taken}
-use Rattle.decompressor.specs.Answer.{Result, refused, numberOf, lengthOf}
+use Rattle.decompressor.specs.declared.answer.Outcome.{Outcome}
+use Rattle.decompressor.specs.Answer.{Result, refused, delivered, numberOf, lengthOf, said}
+use Rattle.decompressor.specs.Receive.{packetOf, fullTable, receivePlain}
+use Rattle.links.specs.Fh.{fhOf}
 use Rattle.decompressor.specs.Table.{contextAt, withContext}
 
 -- what became of a packet, with the output that it left, and the context set into a table at place i
@@ -40,3 +43,12 @@ pub record HeadRead (n : ℕ) (c : DecompressorContext) (h : Head) (s : List ℕ
   pub link : h .flags .low < 16
   pub within : h .place .cursor .at ≤ length s
   pub short : length s ≤ 1500
+
+-- a full header that was judged good, on the table t
+abbrev pub acceptFull : Table → (s output : List ℕ) → Result
+acceptFull t s output =
+    delivered t (fullTable t (fhOf s)) (packetOf (fhOf s .header) (drop (fhOf s .start) s)) output
+
+-- a plain packet leaves any table
+abbrev pub GivenPlain : Outcome → (s before after : List ℕ) → Type 0
+GivenPlain o s before after = (t : Table) → said o t after ≡ receivePlain t s before

@@ -5,11 +5,13 @@ ghost use Prim.Native.Nat.{ℕ, _≤_, _<_};
 ghost use lib.ListN.{length};
 ghost use Rattle.packet.specs.Ranges.{PartsSound};
 ghost use Rattle.context.specs.Sound.{soundDecompressor};
-ghost use Rattle.decompressor.specs.Answer.{said};
 ghost use Rattle.decompressor.specs.Table.{Sound};
 ghost use Rattle.context.specs.declared.decompressor.Status.the-variants.{Live};
 ghost use Rattle.decompressor.specs.declared.old.OldForm.the-variants as oldform;
 ghost use Rattle.decompressor.specs.Receive.{receiveParts, receiveOld, receiveUdp, receiveRtp, receiveOn, receiveCompressed};
+ghost use Rattle.planes.specs.Planes.{lent};
+ghost use Rattle.decompressor_table.specs.Layout.{tableOf, Fits};
+ghost use Rattle.decompressor_table.specs.Calls.{Gives};
 ghost use Rattle.receive.specs.Taken.{Takes, leftBroken, HeadRead};
 use crate::settle::Taken;
 use crate::settle::settle_read;
@@ -19,10 +21,11 @@ use decompress::apply::apply;
 use decompress::apply::apply_whole;
 use decompress::apply::break_context;
 use decompress::header::reads_checksum;
-use decompressor::answer::Answer;
 use decompressor::answer::Outcome;
 use decompressor::old::OldForm;
-use decompressor::table::Table;
+use decompressor_table::layout::Layout;
+use decompressor_table::read::context_at;
+use decompressor_table::write::put_context;
 use links::head::Head;
 use links::head::ReadParts;
 use links_read::cr::read_cr;
@@ -138,39 +141,40 @@ fn receive_on(
     }
 }
 
-// A CU or CR: its context is copied out once and stored back once.
-pub fn receive_compressed(old: OldForm, kind: u32, t: Table, s: &[u8], out: &mut [u8]) -> Answer
-    requires { ⌜ Sound t × (1 ≤ length (now s)) × (length (now s) ≤ 1500) ⌝ }
-    ensures { λ r. ⌜ said r (now (out .exit)) ≡ receiveCompressed old kind t (now (s .entry)) (now (out .entry)) ⌝ }
+// A CU or CR: its context is read out once and stored back once.
+pub fn receive_compressed(
+    old: OldForm,
+    kind: u32,
+    w: &mut [u32],
+    h: &mut [u16],
+    b: &mut [u8],
+    s: &[u8],
+    out: &mut [u8],
+) -> Outcome
+    requires { ⌜ Fits (lent (now w) (now h) (now b)) × Sound (tableOf (lent (now w) (now h) (now b)))
+        × (1 ≤ length (now s)) × (length (now s) ≤ 1500) ⌝ }
+    ensures { λ r. ⌜ Gives (lent (now (w .entry)) (now (h .entry)) (now (b .entry)))
+        (lent (now (w .exit)) (now (h .exit)) (now (b .exit))) r (now (out .exit))
+        (receiveCompressed old kind (tableOf (lent (now (w .entry)) (now (h .entry)) (now (b .entry)))) (now (s .entry))
+        (now (out .entry))) ⌝ }
 {
-    let settings = t.settings;
     let first = read_context(s);
     let field = first.field;
     let number = field.value;
-    if settings.contexts <= number {
-        return Answer {
-            outcome: Outcome::Refused(Refusal::NoSuchContext),
-            table: t,
-        };
+    if b[Layout::CONTEXTS] <= number {
+        return Outcome::Refused(Refusal::NoSuchContext);
     }
     let head = read_head(s, first.place);
     let place = head.place;
     let found = place.verdict;
     if !is_accepted(found) {
-        return Answer {
-            outcome: Outcome::Refused(Refusal::Cut),
-            table: t,
-        };
+        return Outcome::Refused(Refusal::Cut);
     }
     let i = number as usize;
-    let context = t.contexts[i];
-    let taken = receive_on(old, kind, settings.repeats, context, head, s, out);
+    let context = context_at(w, h, b, i);
+    let taken = receive_on(old, kind, b[Layout::REPEATS], context, head, s, out);
     let outcome = taken.outcome;
     let after = taken.context;
-    let mut next = t;
-    next.contexts[i] = after;
-    Answer {
-        outcome: outcome,
-        table: next,
-    }
+    put_context(w, h, b, i, after);
+    outcome
 }

@@ -1,2 +1,4 @@
 pub mod Report
 pub mod ReportLaws
+pub mod Told
+pub mod ToldLaws

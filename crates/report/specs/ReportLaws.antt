@@ -147,7 +147,7 @@ module _ (t : Table) (output : List ℕ) (sound : soundOf t ≡ true) where
   reportOf-sound = rw sound
 
   module _ (n : ℕ) (e : n ≡ length (statesFrom 0 (t .contexts))) where
-    pub report-none : n ≡ 0 → said (record { outcome = Accepted 0; table = t }) output ≡ reportOf t output
+    pub report-none : n ≡ 0 → said (Accepted 0) t output ≡ reportOf t output
     report-none z =
         said-accepted t t [] output 0 output (omega arith) refl refl
         ∙ ap (λ (l : List ℕ). delivered t t l output) (sym (reportOn-none (statesFrom 0 (t .contexts)) (sym e ∙ z)))
@@ -161,12 +161,12 @@ module _ (t : Table) (output : List ℕ) (sound : soundOf t ≡ true) where
       size-some = rw bytes-some (omega (arith, length-csBytes (statesFrom 0 (t .contexts))))
 
       pub report-noRoom : length output < 2 + 3 * n
-          → said (record { outcome = Refused NoRoom; table = t }) output ≡ reportOf t output
+          → said (Refused NoRoom) t output ≡ reportOf t output
       report-noRoom h = said-noRoom t t (reportBytes t) output (rw (← size-some) h) ∙ sym reportOf-sound
 
       pub report-accepted : (out : List ℕ) (r : ℕ) → 2 + 3 * n ≤ length output
           → Wrote output out 0 r (csBytes (statesFrom 0 (t .contexts)))
-          → said (record { outcome = Accepted (2 + 3 * n); table = t }) out ≡ reportOf t output
+          → said (Accepted (2 + 3 * n)) t out ≡ reportOf t output
       report-accepted out r h w =
           let room : length (reportBytes t) ≤ length output = rw (← size-some) h in
           said-accepted t t (reportBytes t) output (2 + 3 * n) out room size-some (wrote-front (rw (← bytes-some) at w) room)

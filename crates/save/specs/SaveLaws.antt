@@ -88,12 +88,12 @@ module _ (t : Table) (output : List ℕ) (sound : soundOf t ≡ true) where
         ap (λ x. bigEndian 2 x ++ bodyBytes t) m
 
     pub save-noRoom : length output < 2 + (3 + n)
-        → said (record { outcome = Refused NoRoom; table = t }) output ≡ saveOf t output
+        → said (Refused NoRoom) t output ≡ saveOf t output
     save-noRoom h = said-noRoom t t (savedBytes t) output (rw (← size-saved) h) ∙ sym saveOf-sound
 
     pub save-accepted : (out : List ℕ) (r : ℕ) → 2 + (3 + n) ≤ length output
         → Wrote output out 0 r (bigEndian 2 (3 + n) ++ bodyBytes t)
-        → said (record { outcome = Accepted (2 + (3 + n)); table = t }) out ≡ saveOf t output
+        → said (Accepted (2 + (3 + n))) t out ≡ saveOf t output
     save-accepted out r h w =
         let room : length (savedBytes t) ≤ length output = rw (← size-saved) h in
         said-accepted t t (savedBytes t) output (2 + (3 + n)) out room size-saved (wrote-front (rw bytes-saved at w) room)

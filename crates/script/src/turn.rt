@@ -1,13 +1,18 @@
 ghost use Prim.Native.Nat.{_≤_, _<_};
 ghost use lib.ListN.{length};
 use crate::line::State;
-use crate::line::run_line;
-use crate::line::unopened;
+use crate::line::run_compressor;
+use crate::line::run_decompressor;
+use crate::line::run_endpoint;
+use crate::line::uncut;
+use crtp::CompressorLayout;
+use crtp::DecompressorLayout;
+use endpoint::Totals;
 use libc::STDIN_FILENO;
 use libc::STDOUT_FILENO;
 use script_text::room::front;
 use script_text::room::least;
-use script_text::text::put;
+use script_text::word::Word;
 
 // The next line end from a place on, or the end of what the buffer is filled with.
 fn line_end(buf: &[u8], at: usize, filled: usize) -> usize
@@ -22,16 +27,6 @@ fn line_end(buf: &[u8], at: usize, filled: usize) -> usize
         i += 1;
     }
     i
-}
-
-// The line end after an answer. Answers go out together; what is left of the text then has room for the longest one.
-fn end_answer(text: &mut [u8], at: usize) -> usize {
-    let past = put(text, at, b'\n');
-    if 40000 < past {
-        io::write_all(STDOUT_FILENO, front(text, past));
-        return 0;
-    }
-    past
 }
 
 // Moves what begins at start to the front. A line longer than any call keeps its first bytes only, so that there is always
@@ -77,54 +72,77 @@ fn read_more(buf: &mut [u8], kept: usize) -> usize
     kept + n
 }
 
-// The answers so far go out, and the input is read on after what begins at start.
-fn read_on(buf: &mut [u8], start: usize, filled: usize, text: &[u8], at: usize) -> usize
-    requires { ⌜ (start ≤ filled) × (filled ≤ length (now buf)) ⌝ }
-    ensures { λ r. ⌜ r ≤ length (now (buf .exit)) ⌝ }
-{
-    io::write_all(STDOUT_FILENO, front(text, at));
-    let kept = keep(buf, start, filled);
-    read_more(buf, kept)
-}
-
-// The next line is run; where none is whole, the input is read on. Nothing is filled where it has ended.
-fn turn(s: State, buf: &mut [u8], text: &mut [u8]) -> State
+// The answers so far go out, and the input is read on after what begins at the start.
+fn read_on(s: State, buf: &mut [u8], text: &[u8]) -> State
     requires { ⌜ (s .start ≤ s .filled) × (s .filled ≤ length (now buf)) ⌝ }
     ensures { λ r. ⌜ (r .start ≤ r .filled) × (r .filled ≤ length (now (buf .exit))) ⌝ }
 {
-    let start = s.start;
-    let filled = s.filled;
-    let end = line_end(buf, start, filled);
-    if end < filled {
-        let past = end + 1;
-        let mut next = run_line(s, &buf[start..end], text);
-        next.at = end_answer(text, next.at);
-        next.start = past;
-        next.filled = filled;
-        return next;
-    }
-    let mut next = s;
-    next.filled = read_on(buf, start, filled, text, s.at);
-    next.at = 0;
-    next.start = 0;
-    next
+    io::write_all(STDOUT_FILENO, front(text, s.at));
+    let kept = keep(buf, s.start, s.filled);
+    uncut(read_more(buf, kept))
 }
 
+// Cuts the next line; where none is whole, the input is read on. Nothing is filled where it has ended.
+fn next_line(s: State, buf: &mut [u8], text: &[u8]) -> State
+    requires { ⌜ (s .start ≤ s .filled) × (s .filled ≤ length (now buf)) ⌝ }
+    ensures { λ r. ⌜ (r .start ≤ r .filled) × (r .filled ≤ length (now (buf .exit))) ⌝ }
+{
+    let end = line_end(buf, s.start, s.filled);
+    if end < s.filled {
+        return State {
+            at: s.at,
+            line: Word {
+                at: s.start,
+                end: end,
+            },
+            waits: true,
+            start: end + 1,
+            filled: s.filled,
+        };
+    }
+    read_on(s, buf, text)
+}
+
+// Every table is one of zeros at first, which is not open: calls on it are refused 1.
+//
 // Nothing says that an input ends, and a proved loop has to: it counts its turns down from a number that no run uses up.
-fn run_lines(buf: &mut [u8], text: &mut [u8]) {
-    let mut state = unopened();
-    let mut turns = u64::MAX;
-    while 0 < turns {
-        state = turn(state, buf, text);
-        if state.filled == 0 {
-            return;
-        }
-        turns -= 1;
-    }
-}
-
 pub fn run() {
     let mut buf = io::large_buffer();
     let mut text = io::large_buffer();
-    run_lines(&mut buf, &mut text);
+    let mut cw = [0u32; CompressorLayout::WORDS];
+    let mut ch = [0u16; CompressorLayout::SHORTS];
+    let mut cb = [0u8; CompressorLayout::BYTES];
+    let mut dw = [0u32; DecompressorLayout::WORDS];
+    let mut dh = [0u16; DecompressorLayout::SHORTS];
+    let mut db = [0u8; DecompressorLayout::BYTES];
+    let mut ecw = [0u32; CompressorLayout::WORDS];
+    let mut ech = [0u16; CompressorLayout::SHORTS];
+    let mut ecb = [0u8; CompressorLayout::BYTES];
+    let mut edw = [0u32; DecompressorLayout::WORDS];
+    let mut edh = [0u16; DecompressorLayout::SHORTS];
+    let mut edb = [0u8; DecompressorLayout::BYTES];
+    let mut totals = [0u32; Totals::COUNT];
+    let mut s = uncut(0);
+    let mut turns = u64::MAX;
+    while 0 < turns {
+        turns -= 1;
+        s = next_line(s, &mut buf, &text);
+        if s.filled == 0 {
+            return;
+        }
+        s = run_compressor(&mut cw, &mut ch, &mut cb, &buf, s, &mut text);
+        s = run_endpoint(
+            &mut ecw,
+            &mut ech,
+            &mut ecb,
+            &mut edw,
+            &mut edh,
+            &mut edb,
+            &mut totals,
+            &buf,
+            s,
+            &mut text,
+        );
+        s = run_decompressor(&mut dw, &mut dh, &mut db, &buf, s, &mut text);
+    }
 }

@@ -1,12 +1,9 @@
 use crate::call::Call;
-use crtp::DecompressorContext;
+use crate::fields::FIELDS;
+use crate::fields::field;
 use crtp::DecompressorOutcome;
-use crtp::Settings;
-use script_fields::refusal::refusal_number;
-use script_fields::shared::Row;
-use script_rows::decompressor_row::FIELDS;
-use script_rows::decompressor_row::place;
-use script_rows::decompressor_row::values;
+use script_shared::field::load;
+use script_shared::refusal::refusal_number;
 use script_text::answer::put_next;
 use script_text::answer::put_output;
 use script_text::room::front;
@@ -47,24 +44,13 @@ pub fn put_answer(
     }
 }
 
-fn wide(v: u32) -> u64 {
-    v as u64
-}
-
-fn put_row(text: &mut [u8], at: usize, row: Row) -> usize {
-    let mut o = at;
-    let mut i = 0;
-    while i < FIELDS {
-        let p = place(i);
-        o = put_next(text, o, wide(row[p]));
-        i += 1;
+// The fields of context i.
+pub fn put_context(text: &mut [u8], at: usize, w: &[u32], h: &[u16], b: &[u8], i: usize) -> usize {
+    let mut o = put_number(text, at, load(w, h, b, field(0), i));
+    let mut place = 1;
+    while place < FIELDS {
+        o = put_next(text, o, load(w, h, b, field(place), i));
+        place += 1;
     }
     o
-}
-
-pub fn put_context(text: &mut [u8], at: usize, s: Settings, c: DecompressorContext) -> usize {
-    let repeats = put_number(text, at, s.repeats as u64);
-    let contexts = put_next(text, repeats, s.contexts as u64);
-    let row = values(c);
-    put_row(text, contexts, row)
 }

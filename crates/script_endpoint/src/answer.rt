@@ -1,6 +1,6 @@
 use crate::call::Call;
 use endpoint::Outcome;
-use script_fields::refusal::refusal_number;
+use script_shared::refusal::refusal_number;
 use script_text::answer::put_next;
 use script_text::answer::put_output;
 use script_text::room::front;

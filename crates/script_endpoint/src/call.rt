@@ -1,4 +1,4 @@
-use crate::totals::PLACES;
+use endpoint::Totals;
 use script_text::number::Pair;
 use script_text::number::last_pair;
 use script_text::packet::Arrival;
@@ -19,10 +19,10 @@ pub enum Call {
     Report(usize),
 }
 
-// What a line is for: a call, writing a number at the place of a total by hand, showing the totals.
+// What a line is for: a call, writing a total by hand, showing the totals.
 pub enum Line {
     Asks(Call),
-    Writes(u32, u32),
+    Writes(usize, u32),
     Shows,
     No,
 }
@@ -72,7 +72,8 @@ fn write_at(line: &[u8], w: Word) -> Line {
     let Pair::Are(i, v) = last_pair(line, w) else {
         return Line::No;
     };
-    if PLACES <= i {
+    let i = i as usize;
+    if Totals::COUNT <= i {
         return Line::No;
     }
     Line::Writes(i, v)

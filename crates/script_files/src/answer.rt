@@ -1,5 +1,5 @@
 use crtp::DecompressorOutcome;
-use script_fields::refusal::refusal_number;
+use script_shared::refusal::refusal_number;
 use script_text::answer::put_output;
 use script_text::text::put_number;
 

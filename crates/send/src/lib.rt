@@ -1,20 +1,24 @@
 // A send: what the compressor makes of a packet.
 //
-// Tables, their soundness, the lookup of a flow's context and the answers are `compressor`'s, and so is the definition `sendOf`,
-// which says all that a send does. What goes out on a context is decided in `outgoing`; here a packet finds its context, and the
-// result finds its output.
+// The table's layout is `compressor_table`'s, its soundness and the lookup of a flow's context are `compressor_walk`'s, and the
+// definition `sendOf`, which says all that a send does, is `compressor`'s. What goes out on a context is decided in `outgoing`;
+// here a packet finds its context, which is read out and stored back, and the result finds its output.
 // Read `send` first.
 ghost use mathlib.Core.Path.{_≡_};
-ghost use Rattle.compressor.specs.Answer.{said};
-ghost use Rattle.compressor.specs.Send.{sendPlain, sendOf};
+ghost use Rattle.compressor.specs.Send.{sendOf};
 ghost use Rattle.compressor.specs.CanSend.{CanSend, sendWith};
+ghost use Rattle.planes.specs.Planes.{lent};
+ghost use Rattle.compressor_table.specs.Layout.{tableOf, Fits};
+ghost use Rattle.compressor_table.specs.Calls.{Gives};
+ghost use Rattle.send.specs.Plain.{GoesPlain};
 use bytes::put::put_all;
-use compressor::answer::Answer;
 use compressor::answer::Outcome;
 use compressor::lookup::Found;
-use compressor::lookup::find;
-use compressor::table::Table;
-use compressor::table::sound;
+use compressor_table::layout::Layout;
+use compressor_table::read::context_at;
+use compressor_table::write::put_context;
+use compressor_walk::lookup::find;
+use compressor_walk::sound::sound;
 use headers_read::form::is_compressible;
 use headers_read::read::header_size;
 use headers_read::read::read_header;
@@ -27,74 +31,67 @@ use packet::refusal::Refusal;
 use settings::Settings;
 
 // A packet that goes out as it is.
-fn send_plain(t: Table, p: &[u8], out: &mut [u8]) -> Answer
-    ensures { λ r. ⌜ said r (now (out .exit)) ≡ sendPlain t (now (p .entry)) (now (out .entry)) ⌝ }
+fn send_plain(p: &[u8], out: &mut [u8]) -> Outcome
+    ensures { λ r. ⌜ GoesPlain r (now (p .entry)) (now (out .entry)) (now (out .exit)) ⌝ }
 {
     if out.len() < p.len() {
-        return Answer {
-            outcome: Outcome::Refused(Refusal::NoRoom),
-            table: t,
-        };
+        return Outcome::Refused(Refusal::NoRoom);
     }
     let length = put_all(out, 0, p);
-    Answer {
-        outcome: Outcome::Accepted(0, length),
-        table: t,
-    }
+    Outcome::Accepted(0, length)
 }
 
-// A packet that goes out on context i.
-fn send_on(t: Table, i: usize, p: &[u8], h: Header, out: &mut [u8]) -> Answer
-    requires { ⌜ CanSend t i (now p) h ⌝ }
-    ensures { λ r. ⌜ said r (now (out .exit)) ≡ sendWith t i (now (p .entry)) (now (out .entry)) h ⌝ }
+// A packet with the header x that goes out on context i.
+fn send_on(
+    w: &mut [u32],
+    h: &mut [u16],
+    b: &mut [u8],
+    i: usize,
+    p: &[u8],
+    x: Header,
+    out: &mut [u8],
+) -> Outcome
+    requires { ⌜ Fits (lent (now w) (now h) (now b)) × CanSend (tableOf (lent (now w) (now h) (now b))) i (now p) x ⌝ }
+    ensures { λ r. ⌜ Gives (lent (now (w .entry)) (now (h .entry)) (now (b .entry)))
+        (lent (now (w .exit)) (now (h .exit)) (now (b .exit))) r (now (out .exit))
+        (sendWith (tableOf (lent (now (w .entry)) (now (h .entry)) (now (b .entry)))) i (now (p .entry)) (now (out .entry)) x) ⌝ }
 {
-    let context = t.contexts[i];
-    let step = step_on(t.settings.repeats, h, context);
-    let start = header_size(h);
+    let context = context_at(w, h, b, i);
+    let step = step_on(b[Layout::REPEATS], x, context);
+    let start = header_size(x);
     let tail = &p[start..];
-    let size = link_size(h, step) + tail.len();
+    let size = link_size(x, step) + tail.len();
     if out.len() < size {
-        return Answer {
-            outcome: Outcome::Refused(Refusal::NoRoom),
-            table: t,
-        };
+        return Outcome::Refused(Refusal::NoRoom);
     }
-    let past = put_link(out, i as u8, p.len() as u16, h, step);
+    let past = put_link(out, i as u8, p.len() as u16, x, step);
     let length = put_all(out, past, tail);
     let kind = step.kind;
     let after = step.context;
-    let mut next = t;
-    next.contexts[i] = after;
-    Answer {
-        outcome: Outcome::Accepted(kind_number(kind), length),
-        table: next,
-    }
+    put_context(w, h, b, i, after);
+    Outcome::Accepted(kind_number(kind), length)
 }
 
 // A packet of any bytes, to be put on the link.
-pub fn send(t: Table, p: &[u8], out: &mut [u8]) -> Answer
-    ensures { λ r. ⌜ said r (now (out .exit)) ≡ sendOf t (now (p .entry)) (now (out .entry)) ⌝ }
+pub fn send(w: &mut [u32], h: &mut [u16], b: &mut [u8], p: &[u8], out: &mut [u8]) -> Outcome
+    ensures { λ r. ⌜ Gives (lent (now (w .entry)) (now (h .entry)) (now (b .entry)))
+        (lent (now (w .exit)) (now (h .exit)) (now (b .exit))) r (now (out .exit))
+        (sendOf (tableOf (lent (now (w .entry)) (now (h .entry)) (now (b .entry)))) (now (p .entry)) (now (out .entry))) ⌝ }
 {
-    if !sound(t) {
-        return Answer {
-            outcome: Outcome::Refused(Refusal::Unsound),
-            table: t,
-        };
+    if !sound(w, h, b) {
+        return Outcome::Refused(Refusal::Unsound);
     }
     let allowed = (1 <= p.len()) & (p.len() <= Settings::LONGEST);
     if !allowed {
-        return Answer {
-            outcome: Outcome::Refused(Refusal::BadLength),
-            table: t,
-        };
+        return Outcome::Refused(Refusal::BadLength);
     }
     if !is_compressible(p) {
-        return send_plain(t, p, out);
+        return send_plain(p, out);
     }
     let header = read_header(p);
     let flow = header.flow;
-    match find(t, flow) {
-        Found::At(i) => send_on(t, i, p, header, out),
-        Found::Nowhere => send_plain(t, p, out),
+    match find(w, h, b, flow) {
+        Found::At(i) => send_on(w, h, b, i, p, header, out),
+        Found::Nowhere => send_plain(p, out),
     }
 }

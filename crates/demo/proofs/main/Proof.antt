@@ -1,13 +1,20 @@
-use Prim.Native.Nat.{_≤_, _-_}
 use borrow.Author.Needs.{needs}
+use Prim.Native.Nat.{_≤_, _-_}
 use Rattle.demo.proofs.main.Statement.{statement}
 use Rattle.demo.proofs.main.Tie as tie
+use Rattle.demo.proofs.main.Reads as reads
+use Rattle.demo.proofs.main.Lts as lts
+use Rattle.demo.proofs.place.opened.Reads as opened-reads
+use Rattle.demo.proofs.run.half_turn.Reads as half-turn-reads
+use Rattle.demo.proofs.show.print_count.Reads as print-count-reads
+use Rattle.demo.proofs.show.print_totals.Reads as print-totals-reads
+use Rattle.demo.proofs.show.text.Reads as text-reads
 
 abbrev Inv-loop : tie.InvT-loop
-Inv-loop link₀ turn₀ t14 t15 link turn = turn ≤ 60
+Inv-loop link₀ turn₀ t15 t16 link turn = turn ≤ 60
 
 abbrev μ-loop : tie.MeasureT-loop
-μ-loop link₀ turn₀ t14 t15 link turn = 60 - turn
+μ-loop link₀ turn₀ t15 t16 link turn = 60 - turn
 
 slice-aggregate-text : tie.Need-slice-aggregate-text Inv-loop μ-loop
 slice-aggregate-text c = search needs
@@ -21,17 +28,11 @@ slice-aggregate-text-2 c = search needs
 text-requires-2 : tie.Need-text-requires-2 Inv-loop μ-loop
 text-requires-2 c κs = search needs
 
-closed-requires : tie.Need-closed-requires Inv-loop μ-loop
-closed-requires c κs = search needs
+opened-requires : tie.Need-opened-requires Inv-loop μ-loop
+opened-requires c κs = search needs
 
-open-requires : tie.Need-open-requires Inv-loop μ-loop
-open-requires c κs = search needs
-
-closed-requires-2 : tie.Need-closed-requires-2 Inv-loop μ-loop
-closed-requires-2 c κs = search needs
-
-open-requires-2 : tie.Need-open-requires-2 Inv-loop μ-loop
-open-requires-2 c κs = search needs
+opened-requires-2 : tie.Need-opened-requires-2 Inv-loop μ-loop
+opened-requires-2 c κs = search needs
 
 loop-holds : tie.Need-loop-holds Inv-loop μ-loop
 loop-holds c = search needs
@@ -88,10 +89,8 @@ main-spec =
     text-requires
     slice-aggregate-text-2
     text-requires-2
-    closed-requires
-    open-requires
-    closed-requires-2
-    open-requires-2
+    opened-requires
+    opened-requires-2
     loop-holds
     half-turn-requires
     half-turn-requires-2

@@ -1,32 +1,29 @@
-use borrow.Author.Needs.{needs}
-use Rattle.report.specs.ReportLaws.{statesBefore, states-all, count-more}
-use Rattle.links.specs.Cs.{State}
-use Rattle.decompressor.specs.Table.{noContext}
-use Rattle.context.proofs.Arrays.{length-mapped}
-use lib.ListN.{length}
-use mathlib.Core.Path.{_≡_, ap, _∙_}
 use Prim.Native.Nat.{_≤_, _-_}
+use mathlib.Core.Path.{_≡_, refl, ap, _∙_}
 use native.Mathlib.Omega.{arith}
+use denote.Ref.{now}
+use lib.ListN.{length}
+use Rattle.links.specs.Cs.{State}
+use Rattle.report.specs.ReportLaws.{statesBefore, states-all}
+use Rattle.report.specs.Told.{told}
+use Rattle.report.specs.ToldLaws.{length-told, told-count}
 use Rattle.report.proofs.count_records.Statement.{statement}
 use Rattle.report.proofs.count_records.Tie as tie
+use Rattle.report.proofs.count_records.Reads as reads
+use Rattle.report.proofs.count_records.Lts as lts
+use Rattle.report.proofs.records_at.Reads as records-at-reads
 
 abbrev Inv-loop : tie.InvT-loop
-Inv-loop contexts n₀ i₀ n i = (length contexts ≡ 64) × (n ≡ length (statesBefore contexts i)) × (n ≤ i) × (i ≤ 64)
+Inv-loop b n₀ i₀ n i = (length b ≡ 834) × (n ≡ length (statesBefore (told b) i)) × (n ≤ i) × (i ≤ 64)
 
 abbrev μ-loop : tie.MeasureT-loop
-μ-loop contexts n₀ i₀ n i = 64 - i
+μ-loop b n₀ i₀ n i = 64 - i
 
 loop-holds : tie.Need-loop-holds Inv-loop μ-loop
-loop-holds c = search (needs, length-mapped)
+loop-holds c = (c .before .pre, refl, omega arith, omega arith)
 
-mul-context : tie.Need-mul-context Inv-loop μ-loop
-mul-context c = omega arith
-
-array-copy-out-context : tie.Need-array-copy-out-context Inv-loop μ-loop
-array-copy-out-context c = search needs
-
-records-of-requires : tie.Need-records-of-requires Inv-loop μ-loop
-records-of-requires c κs = search needs
+records-at-requires : tie.Need-records-at-requires Inv-loop μ-loop
+records-at-requires c κs = (c .before .loop .inv .0, c .loop-test .taken)
 
 add-n : tie.Need-add-n Inv-loop μ-loop
 add-n c = omega arith
@@ -38,18 +35,24 @@ loop-less : tie.Need-loop-less Inv-loop μ-loop
 loop-less c = omega arith
 
 loop-again : tie.Need-loop-again Inv-loop μ-loop
-loop-again c = let a = c .before .before .before .before .args in
-    let l = c .before .before .before .loop in (
+loop-again c =
+    let l = c .before .before .loop in (
       l .inv .0,
-      rw (count-more (a .t1) (l .i) noContext (omega arith)) (omega (arith, l .inv .1, c .records-of .ensures .0)),
+      rw (told-count (now (c .before .before .before .before .args .b)) (l .i) (omega arith)) (omega (
+        arith,
+        l .inv .1,
+        c
+            .records-at .ensures .0,
+      )),
       omega arith,
       omega arith,
     )
 
 returns : tie.Need-returns Inv-loop μ-loop
-returns c = let a = c .before .before .args in
+returns c =
+    let b = now (c .before .before .before .args .b) in
     let l = c .before .loop in
-    (l .inv .1 ∙ ap (length {A = State}) (states-all (a .t1) (l .i) (omega arith)), omega arith)
+    (l .inv .1 ∙ ap (length {A = State}) (states-all (told b) (l .i) (omega (arith, length-told b))), omega arith)
 
 pub count-records-spec : {M : Type 1} → statement M
 count-records-spec =
@@ -58,9 +61,7 @@ count-records-spec =
     Inv-loop
     μ-loop
     loop-holds
-    mul-context
-    array-copy-out-context
-    records-of-requires
+    records-at-requires
     add-n
     add-i
     loop-less

@@ -1,47 +1,45 @@
-use Rattle.report.specs.ReportLaws.{statesBefore, states-all, records-more, records-room}
-use Rattle.report.specs.Report.{statesFrom}
-use Rattle.links.specs.Cs.{recordsBytes}
-use Rattle.context.proofs.AllLaws.{all-getD}
-use Rattle.decompressor.specs.TableLaws.{sound-noContext}
-use Rattle.decompressor.specs.Table.{noContext}
-use Rattle.context.proofs.Arrays.{length-mapped}
-use Rattle.context.specs.Sound.{soundDecompressor}
-use Rattle.context.specs.All.{all}
-use Rattle.bytes.specs.PutLaws.{wrote-then, wrote-nothing, wrote-length}
-use Rattle.bytes.specs.Put.{Wrote}
-use lib.ListN.{length}
+use Prim.Native.Nat.{_≤_, _-_, _+_}
 use mathlib.Core.Bool.{true}
 use mathlib.Core.Path.{_≡_}
-use Prim.Native.Nat.{_≤_, _-_, _+_}
 use native.Mathlib.Omega.{arith}
-use borrow.Author.Needs.{needs}
+use borrow.Author.Tests.{leb-true}
+use denote.Ref.{now}
+use lib.ListN.{length}
+use Rattle.bytes.specs.Put.{Wrote}
+use Rattle.bytes.specs.PutLaws.{wrote-then, wrote-nothing, wrote-length}
+use Rattle.links.specs.Cs.{recordsBytes}
+use Rattle.planes.specs.Planes.{cell, every}
+use Rattle.planes.specs.EveryLaws.{every-at}
+use Rattle.report.specs.Report.{statesFrom}
+use Rattle.report.specs.ReportLaws.{statesBefore, states-all}
+use Rattle.report.specs.Told.{linkedAt, told}
+use Rattle.report.specs.ToldLaws.{length-told, told-more, told-room}
 use Rattle.report.proofs.put_states.Statement.{statement}
 use Rattle.report.proofs.put_states.Tie as tie
+use Rattle.report.proofs.put_states.Reads as reads
+use Rattle.report.proofs.put_states.Lts as lts
+use Rattle.report.proofs.put_state.Reads as put-state-reads
 
 abbrev Inv-loop : tie.InvT-loop
-Inv-loop out₀ at contexts o₀ i₀ out o i = (length contexts ≡ 64) × (all soundDecompressor contexts ≡ true) × (i ≤ 64)
-    × (at + length (recordsBytes (statesFrom 0 contexts)) ≤ length out₀)
-    × Wrote out₀ out at o (recordsBytes (statesBefore contexts i))
+Inv-loop out₀ at b o₀ i₀ out o i = (length b ≡ 834) × (every (linkedAt b) 64 ≡ true) × (i ≤ 64)
+    × (at + length (recordsBytes (statesFrom 0 (told b))) ≤ length out₀)
+    × Wrote out₀ out at o (recordsBytes (statesBefore (told b) i))
 
 abbrev μ-loop : tie.MeasureT-loop
-μ-loop out₀ at contexts o₀ i₀ out o i = 64 - i
+μ-loop out₀ at b o₀ i₀ out o i = 64 - i
 
 loop-holds : tie.Need-loop-holds Inv-loop μ-loop
-loop-holds c = (search (needs, length-mapped), c .before .pre .0, omega arith, c .before .pre .1, wrote-nothing)
-
-mul-context : tie.Need-mul-context Inv-loop μ-loop
-mul-context c = omega arith
-
-array-copy-out-context : tie.Need-array-copy-out-context Inv-loop μ-loop
-array-copy-out-context c = search needs
+loop-holds c = (c .before .before .pre .0, c .before .before .pre .1, omega arith, c .before .before .pre .2, wrote-nothing)
 
 put-state-requires : tie.Need-put-state-requires Inv-loop μ-loop
-put-state-requires c κs = let l = c .before .before .before .loop in
-    let a = c .before .before .before .before .before .args in
+put-state-requires c κs =
+    let b = now (c .before .before .before .before .before .args .b) in
+    let l = c .before .before .loop in
     let w = l .inv .4 in (
-      c .before .before .loop-test .taken,
-      all-getD soundDecompressor (a .t3) (l .i) noContext sound-noContext (l .inv .1),
-      omega (arith, w .ends, wrote-length w, l .inv .3, records-room (a .t3) (l .i) noContext (omega arith)),
+      l .inv .0,
+      c .before .loop-test .taken,
+      leb-true (cell b 11 (l .i)) 15 (every-at (linkedAt b) 64 (l .i) (c .before .loop-test .taken) (l .inv .1)),
+      omega (arith, w .ends, wrote-length w, l .inv .3, told-room b (l .i) (c .before .loop-test .taken)),
     )
 
 add-i : tie.Need-add-i Inv-loop μ-loop
@@ -51,21 +49,25 @@ loop-less : tie.Need-loop-less Inv-loop μ-loop
 loop-less c = omega arith
 
 loop-again : tie.Need-loop-again Inv-loop μ-loop
-loop-again c = let l = c .before .before .before .before .before .before .loop in
-    let a = c .before .before .before .before .before .before .before .before .args in (
+loop-again c =
+    let b = now (c .before .before .before .before .before .before .before .before .args .b) in
+    let l = c .before .before .before .before .before .loop in (
       l .inv .0,
       l .inv .1,
       omega arith,
       l .inv .3,
-      rw (records-more (a .t3) (l .i) noContext (omega arith)) (wrote-then (l .inv .4) (c .before .before .put-state .ensures)),
+      rw (told-more b (l .i) (c .before .before .before .before .loop-test .taken)) (wrote-then (l .inv .4) (c .before .before
+          .put-state .ensures)),
     )
 
 same-length : tie.Need-same-length Inv-loop μ-loop
 same-length c = wrote-length (c .before .loop .inv .4)
 
 returns : tie.Need-returns Inv-loop μ-loop
-returns c = let l = c .before .loop in
-    rw (← states-all (c .before .before .before .args .t3) (l .i) (omega arith)) (l .inv .4)
+returns c =
+    let b = now (c .before .before .before .before .args .b) in
+    let l = c .before .loop in
+    rw (← states-all (told b) (l .i) (omega (arith, length-told b))) (l .inv .4)
 
 pub put-states-spec : {M : Type 1} → statement M
 put-states-spec =
@@ -74,8 +76,6 @@ put-states-spec =
     Inv-loop
     μ-loop
     loop-holds
-    mul-context
-    array-copy-out-context
     put-state-requires
     add-i
     loop-less

@@ -1,92 +1,200 @@
-use Rattle.compressor.specs.RequestLaws.{askedAll-more, requestTable-made}
-use Prim.Native.Nat.{_≤_, _-_}
-use lib.ListN.{length, length-set}
-use mathlib.Core.Path.{_≡_, refl, sym, _∙_}
+use Prim.Native.Nat.{ℕ, _≤_, _<_, _-_}
+use mathlib.Core.Path.{_≡_, _∙_, sym, ap}
 use native.Mathlib.Omega.{arith}
 use borrow.Author.Needs.{needs}
-use Rattle.context.proofs.Arrays.{length-mapped}
-use Rattle.compressor.specs.Request.{askedAll}
+use denote.Ref.{now}
+use lib.ListN.{length}
+use Rattle.planes.specs.Planes.{Lent, lent}
+use Rattle.compressor.specs.RequestLaws.{requestTable-made}
+use Rattle.compressor_table.specs.Layout.{tableOf, Fits}
+use Rattle.compressor_table.specs.LayoutLaws.{fits-sizes, tableOf-repeats}
+use Rattle.request.proofs.Acting.{Acted, acted-start, acted-more}
 use Rattle.request.proofs.act_on_all.Statement.{statement}
 use Rattle.request.proofs.act_on_all.Tie as tie
+use Rattle.request.proofs.act_on_all.Reads as reads
+use Rattle.request.proofs.act_on_all.Lts as lts
+use Rattle.compressor_table.proofs.read.context_at.Reads as context-at-reads
+use Rattle.compressor_table.proofs.write.put_context.Reads as put-context-reads
+use Rattle.refresh.proofs.cs.record_asks.Reads as record-asks-reads
+use Rattle.refresh.proofs.cs.record_context.Reads as record-context-reads
+use Rattle.refresh.proofs.cs.record_count.Reads as record-count-reads
+use Rattle.request.proofs.act_on.Reads as act-on-reads
 
 abbrev Inv-loop : tie.InvT-loop
-Inv-loop s n count next₀ i₀ next i = (i ≤ count) × (length (next .contexts) ≡ 64) × (next .settings ≡ next₀ .settings)
-    × (next .contexts ≡ askedAll n s (next₀ .contexts) i)
+Inv-loop w₀ h₀ b₀ s repeats count i₀ w h b i = (i ≤ count) × Acted (lent w₀ h₀ b₀) (lent w h b) s i
 
 abbrev μ-loop : tie.MeasureT-loop
-μ-loop s n count next₀ i₀ next i = count - i
+μ-loop w₀ h₀ b₀ s repeats count i₀ w h b i = count - i
+
+slice-read-repeats : tie.Need-slice-read-repeats Inv-loop μ-loop
+slice-read-repeats c = let a = c .before .before .before .before .before .args in omega (
+  arith,
+  fits-sizes (lent (now (a .w)) (now
+      (a .h)) (now (a .b))) (c .before .before .before .before .before .pre .0) .bytes,
+)
 
 record-count-requires : tie.Need-record-count-requires Inv-loop μ-loop
-record-count-requires c κs = omega (arith, c .before .pre .2 .exact)
+record-count-requires c κs = omega (arith, c .before .before .before .before .before .pre .1 .good .exact)
 
 loop-holds : tie.Need-loop-holds Inv-loop μ-loop
-loop-holds c = (omega arith, search (needs, length-mapped), refl, refl)
+loop-holds c =
+    let a = c .before .before .before .before .before .before .args in (
+      omega arith,
+      acted-start (lent (now (a .w)) (now (a .h)) (now (a .b))) (now (a .s)) (c .before .before .before .before
+          .before .before .pre .0),
+    )
 
 record-asks-requires : tie.Need-record-asks-requires Inv-loop μ-loop
-record-asks-requires c κs = let g = c .before .before .before .before .pre .2 .exact in
-    omega (arith, g, c .before .before .record-count .ensures)
+record-asks-requires c κs =
+    let s = c .before .before .before .before .before .before .before .before in
+    omega (arith, s .pre .1 .good .exact, c .before .before .record-count .ensures)
 
 record-context-requires : tie.Need-record-context-requires Inv-loop μ-loop
-record-context-requires c κs = let g = c .before .before .before .before .before .pre .2 .exact in
-    omega (arith, g, c .before .before .before .record-count .ensures)
+record-context-requires c κs = omega (
+  arith,
+  c .before .before .before .before .before .before .before .before .before .pre .1
+      .good .exact,
+  c .before .before .before .record-count .ensures,
+)
 
 cast-place : tie.Need-cast-place Inv-loop μ-loop
 cast-place c = search needs
 
-mul-context : tie.Need-mul-context Inv-loop μ-loop
-mul-context c = search needs
-
-element-copy-out-context : tie.Need-element-copy-out-context Inv-loop μ-loop
-element-copy-out-context c = let g = c .before .before .before .before .before .before .pre in
-    let i = c .before .before .before .loop .i in
-    omega (
-      arith,
-      g .1,
-      g .2 .contexts i (omega (arith, c .before .before .before .before .record-count .ensures)),
-      c .record-context .ensures,
-      c .before .before .before .loop .inv .1,
+context-at-requires : tie.Need-context-at-requires Inv-loop μ-loop
+context-at-requires c κs =
+    let s = (c .before .before .before .before .before .before .before .before .before .before .before .before .before) in
+    let l = c .before .before .before .before .before .before .loop in
+    let z = fits-sizes (lent (l .w) (l .h) (l .b)) (l .inv .1 .fit) in (
+      z .words,
+      z .shorts,
+      z .bytes,
+      omega (
+        arith,
+        s .pre .1 .most,
+        s .pre .1 .good .contexts (l .i) (omega (
+          arith,
+          c .before .before .before .before .before .loop-test .taken,
+          c .before
+              .before .before .before .before .before .before .record-count .ensures,
+        )),
+        c .before .before .before .record-context .ensures,
+      ),
     )
 
 act-on-requires : tie.Need-act-on-requires Inv-loop μ-loop
-act-on-requires c κs = search needs
+act-on-requires c κs =
+    let s = (c .before .before .before .before .before .before .before .before .before .before .before .before .before .before) in
+    let a = s .args in
+    omega (arith, s .pre .1 .repeats, tableOf-repeats (lent (now (a .w)) (now (a .h)) (now (a .b))) (s .pre .0))
 
-mul-asked : tie.Need-mul-asked Inv-loop μ-loop
-mul-asked c = search needs
-
-element-set-from-asked : tie.Need-element-set-from-asked Inv-loop μ-loop
-element-set-from-asked c = let g = c .before .before .before .before .before .before .before .before .pre in
-    let i = c .before .before .before .before .before .loop .i in
-    omega (
-      arith,
-      g .1,
-      g .2 .contexts i (omega (arith, c .before .before .before .before .before .before .record-count .ensures)),
-      c .before .before .record-context .ensures,
-      c .before .before .before .before .before .loop .inv .1,
+put-context-requires : tie.Need-put-context-requires Inv-loop μ-loop
+put-context-requires c κs =
+    let s = (c .before .before .before .before .before .before .before .before .before .before .before .before .before .before
+    .before .before .before .before) in
+    let l = c .before .before .before .before .before .before .before .before .before .before .before .loop in (
+      l .inv .1 .fit,
+      omega (
+        arith,
+        s .pre .1 .most,
+        s .pre .1 .good .contexts (l .i) (omega (
+          arith,
+          c .before .before .before .before .before .before .before .before .before
+              .before .loop-test .taken,
+          c .before .before .before .before .before .before .before .before .before .before .before
+              .before .record-count .ensures,
+        )),
+        c .before .before .before .before .before .before .before .before .record-context .ensures,
+      ),
     )
 
 add-i : tie.Need-add-i Inv-loop μ-loop
-add-i c = search needs
+add-i c = omega (
+  arith,
+  c .before .before .before .before .before .before .before .before .before .before .before .before .before
+      .before .before .before .before .loop-test .taken,
+  c .before .before .before .before .before .before .before .before .before
+      .before .before .before .before .before .before .before .before .before .before .record-count .ensures .1,
+)
 
 loop-less : tie.Need-loop-less Inv-loop μ-loop
-loop-less c = search needs
+loop-less c = omega (
+  arith,
+  c .before .before .before .before .before .before .before .before .before .before .before .before
+      .before .before .before .before .before .loop-test .taken,
+)
 
 loop-again : tie.Need-loop-again Inv-loop μ-loop
-loop-again c = let a = c .before .before .before .before .before .before .before .before .args in
-    let l = c .before .before .before .before .before .loop in (
-      omega arith,
-      simp length-set (l .inv .1),
-      l .inv .2,
-      askedAll-more (a .t .settings .repeats) (a .s .now) (a .t .contexts) (l .next .contexts) (l .i)
-          (c .before .before .before .record-asks .result) (c .before .before .record-context .result) (c .act-on .result)
-          (l .inv .3) (c .before .before .before .record-asks .ensures) (c .before .before .record-context .ensures)
-          (c .act-on .ensures),
+loop-again c =
+    let s = (c .before .before .before .before .before .before .before .before .before .before .before .before .before .before
+    .before .before .before .before .before .before .before .before .before .before .before) in
+    let a = s .args in
+    let l = c .before .before .before .before .before .before .before .before .before .before .before .before .before .before
+    .before .before .before .before .loop in (
+      omega (
+        arith,
+        c .before .before .before .before .before .before .before .before .before .before .before .before .before
+            .before .before .before .before .loop-test .taken,
+      ),
+      acted-more (lent (now (a .w)) (now (a .h)) (now (a .b))) (lent (l .w) (l .h) (l .b)) _ (now (a .s)) (l .i)
+          (c .before .before .before .before .before .before .before .before .before .before .before .before .before .before
+          .before .record-context .result) (c .before .before .before .before .before .before .before .before .before .before
+          .before .before .before .before .before .before .record-asks .result)
+          (c .before .before .before .before .before .before .before .before .before .before .before .context-at .result) (c
+          .before .before .before .before .before .before .before .before .before .before .act-on .result) (s .pre .0) (l .inv
+          .1)
+          (omega (
+            arith,
+            s .pre .1 .most,
+            s .pre .1 .good .contexts (l .i) (omega (
+              arith,
+              c .before .before .before .before .before .before .before .before
+                  .before .before .before .before .before .before .before .before .before .loop-test .taken,
+              c .before .before
+                  .before .before .before .before .before .before .before .before .before .before .before .before .before
+                  .before .before .before .before .record-count .ensures,
+            )),
+            c .before .before .before .before .before .before .before .before .before .before .before .before .before .before
+                .before .record-context .ensures,
+          ))
+          (c .before .before .before .before .before .before .before .before .before .before .before .before .before .before
+          .before .before .record-asks .ensures) (c .before .before .before .before .before .before .before .before .before
+          .before .before .before .before .before .before .record-context .ensures)
+          (c .before .before .before .before .before .before .before .before .before .before .before .context-at .ensures) (c
+          .before .before .before .before .before .before .before .before .before .before .act-on .ensures) (c .before .before
+          .before .before .before .before .put-context .ensures),
     )
 
-returns : tie.Need-returns Inv-loop μ-loop
-returns c = let a = c .before .before .before .before .args in
+same-length : tie.Need-same-length Inv-loop μ-loop
+same-length c =
+    let a = c .before .before .before .before .before .before .before .before .args in
     let l = c .before .loop in
-    requestTable-made (a .t) (a .s .now) (l .next) (l .i) (omega (arith, c .before .before .record-count .ensures)) (l .inv .2)
-    (l .inv .3)
+    fits-sizes (lent (l .w) (l .h) (l .b)) (l .inv .1 .fit) .words
+    ∙ sym (fits-sizes (lent (now (a .w)) (now (a .h)) (now (a .b))) (c .before .before .before .before .before .before .before
+    .before .pre .0) .words)
+
+same-length-2 : tie.Need-same-length-2 Inv-loop μ-loop
+same-length-2 c =
+    let a = c .before .before .before .before .before .before .before .before .args in
+    let l = c .before .loop in
+    fits-sizes (lent (l .w) (l .h) (l .b)) (l .inv .1 .fit) .shorts
+    ∙ sym (fits-sizes (lent (now (a .w)) (now (a .h)) (now (a .b))) (c .before .before .before .before .before .before .before
+    .before .pre .0) .shorts)
+
+same-length-3 : tie.Need-same-length-3 Inv-loop μ-loop
+same-length-3 c =
+    let a = c .before .before .before .before .before .before .before .before .args in
+    let l = c .before .loop in
+    fits-sizes (lent (l .w) (l .h) (l .b)) (l .inv .1 .fit) .bytes
+    ∙ sym (fits-sizes (lent (now (a .w)) (now (a .h)) (now (a .b))) (c .before .before .before .before .before .before .before
+    .before .pre .0) .bytes)
+
+returns : tie.Need-returns Inv-loop μ-loop
+returns c =
+    let a = c .before .before .before .before .before .before .before .before .args in
+    let l = c .before .loop in
+    requestTable-made (tableOf (lent (now (a .w)) (now (a .h)) (now (a .b)))) (now (a .s)) (tableOf (lent (l .w) (l .h) (l .b)))
+    (l .i)
+    (omega (arith, c .before .before .record-count .ensures)) (l .inv .1 .settings) (l .inv .1 .contexts)
 
 pub act-on-all-spec : {M : Type 1} → statement M
 act-on-all-spec =
@@ -94,17 +202,19 @@ act-on-all-spec =
     (tie.spec
     Inv-loop
     μ-loop
+    slice-read-repeats
     record-count-requires
     loop-holds
     record-asks-requires
     record-context-requires
     cast-place
-    mul-context
-    element-copy-out-context
+    context-at-requires
     act-on-requires
-    mul-asked
-    element-set-from-asked
+    put-context-requires
     add-i
     loop-less
     loop-again
+    same-length
+    same-length-2
+    same-length-3
     returns)

@@ -1,43 +1,56 @@
-use Rattle.saves.specs.SizeLaws.{recordsBytes-more}
-use Rattle.saves.specs.Saves.{recordBytes, recordsBytes}
-use Rattle.context.proofs.AllLaws.{all-getD}
-use Rattle.decompressor.specs.TableLaws.{sound-noContext}
-use Rattle.decompressor.specs.Table.{noContext}
-use Rattle.context.proofs.Arrays.{length-mapped}
-use Rattle.context.specs.Sound.{soundDecompressor}
-use Rattle.context.specs.All.{all}
-use lib.ListN.{length, getD, take, length-append}
+use Prim.Native.Nat.{_≤_, _-_, _*_}
 use mathlib.Core.Bool.{true}
 use mathlib.Core.Path.{_≡_, refl}
-use Prim.Native.Nat.{_≤_, _-_, _*_}
 use native.Mathlib.Omega.{arith}
-use borrow.Author.Needs.{needs}
+use denote.Ref.{now}
+use lib.ListN.{length, take}
+use Rattle.planes.specs.Planes.{Lent, lent}
+use Rattle.decompressor.specs.Table.{soundOf}
+use Rattle.decompressor_table.specs.Layout.{tableOf}
+use Rattle.decompressor_table.specs.LayoutLaws.{sound-fits, fits-sizes}
+use Rattle.saves.specs.Saves.{recordsBytes}
+use Rattle.save.specs.LentLaws.{sound-here, length-here}
 use Rattle.save.proofs.records_size.Statement.{statement}
 use Rattle.save.proofs.records_size.Tie as tie
+use Rattle.save.proofs.records_size.Reads as reads
+use Rattle.save.proofs.records_size.Lts as lts
+use Rattle.decompressor_table.proofs.read.context_at.Reads as context-at-reads
+use Rattle.save.proofs.record.record_size.Reads as record-size-reads
 
 abbrev Inv-loop : tie.InvT-loop
-Inv-loop n contexts size₀ i₀ size i =
-    (length contexts ≡ 64) × (all soundDecompressor contexts ≡ true) × (n ≤ 64) × (i ≤ n)
-    × (size ≡ length (recordsBytes (take i contexts))) × (size ≤ 110 * i)
+Inv-loop w h b n size₀ i₀ size i =
+    (soundOf (tableOf (lent w h b)) ≡ true) × (n ≤ 64) × (i ≤ n)
+    × (size ≡ length (recordsBytes (take i (tableOf (lent w h b) .contexts)))) × (size ≤ 110 * i)
 
 abbrev μ-loop : tie.MeasureT-loop
-μ-loop n contexts size₀ i₀ size i = n - i
+μ-loop w h b n size₀ i₀ size i = n - i
+
+abbrev handed : tie.Start Inv-loop μ-loop → Lent
+handed s = lent (now (s .args .w)) (now (s .args .h)) (now (s .args .b))
 
 loop-holds : tie.Need-loop-holds Inv-loop μ-loop
-loop-holds c = (search (needs, length-mapped), c .pre .0, c .pre .1, omega arith, refl, omega arith)
+loop-holds c = (c .before .before .before .pre .0, c .before .before .before .pre .1, omega arith, refl, omega arith)
 
-mul-context : tie.Need-mul-context Inv-loop μ-loop
-mul-context c = omega arith
-
-array-copy-out-context : tie.Need-array-copy-out-context Inv-loop μ-loop
-array-copy-out-context c = search needs
+context-at-requires : tie.Need-context-at-requires Inv-loop μ-loop
+context-at-requires c κs =
+    let v = c .before .loop .inv in
+    let z = fits-sizes (handed (c .before .before .before .before .before)) (sound-fits (handed (c .before .before .before .before
+    .before)) (v .0)) in
+    (z .words, z .shorts, z .bytes, omega (arith, v .1, c .loop-test .taken))
 
 record-size-requires : tie.Need-record-size-requires Inv-loop μ-loop
-record-size-requires c κs = let l = c .before .before .loop in
-    all-getD soundDecompressor (c .before .before .before .args .t1) (l .i) noContext sound-noContext (l .inv .1)
+record-size-requires c κs =
+    let l = c .before .before .loop in
+    sound-here (handed (c .before .before .before .before .before .before)) (l .inv .0) (l .i) (omega (
+      arith,
+      l .inv .1,
+      c .before
+          .loop-test .taken,
+    )) (c .context-at .result)
+    (c .context-at .ensures)
 
 add-size : tie.Need-add-size Inv-loop μ-loop
-add-size c = omega arith
+add-size c = omega (arith, c .before .before .before .loop .inv .4, c .record-size .ensures .1)
 
 add-i : tie.Need-add-i Inv-loop μ-loop
 add-i c = omega arith
@@ -46,26 +59,31 @@ loop-less : tie.Need-loop-less Inv-loop μ-loop
 loop-less c = omega arith
 
 loop-again : tie.Need-loop-again Inv-loop μ-loop
-loop-again c = let a = c .before .before .before .before .args in
+loop-again c =
     let l = c .before .before .before .loop in (
       l .inv .0,
       l .inv .1,
-      l .inv .2,
       omega arith,
-      rw (recordsBytes-more (a .t1) (l .i) noContext (omega arith))
-          (omega (
-            arith,
-            length-append (recordsBytes (take (l .i) (a .t1))) (recordBytes (getD (a .t1) (l .i) noContext)),
-            l .inv .4,
-            c .record-size .ensures .0,
-          )),
-      omega (arith, l .inv .5, c .record-size .ensures .1),
+      omega (
+        arith,
+        length-here (handed (c .before .before .before .before .before .before .before)) (l .inv .0) (l .i) (omega (
+          arith,
+          l .inv
+              .1,
+          c .before .before .loop-test .taken,
+        ))
+            (c .before .context-at .result) (c .before .context-at .ensures),
+        l .inv .3,
+        c .record-size .ensures .0,
+      ),
+      omega (arith, l .inv .4, c .record-size .ensures .1),
     )
 
 returns : tie.Need-returns Inv-loop μ-loop
-returns c = let l = c .before .loop in
-    let e : l .i ≡ c .before .before .args .n = omega arith in
-    (rw (← e) (l .inv .4), omega arith)
+returns c =
+    let l = c .before .loop in
+    let e : l .i ≡ c .before .before .before .before .before .args .n = omega arith in
+    (rw (← e) (l .inv .3), omega arith)
 
 pub records-size-spec : {M : Type 1} → statement M
 records-size-spec =
@@ -74,8 +92,7 @@ records-size-spec =
     Inv-loop
     μ-loop
     loop-holds
-    mul-context
-    array-copy-out-context
+    context-at-requires
     record-size-requires
     add-size
     add-i

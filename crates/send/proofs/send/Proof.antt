@@ -1,34 +1,77 @@
-use borrow.Author.Tests.{not-true, not-false}
-use lib.ListN.{length}
-use mathlib.Core.Path.{_≡_, sym, ap, _∙_}
+use mathlib.Core.Path.{_≡_, _∙_, sym, ap}
 use native.Mathlib.Omega.{arith}
+use borrow.Author.Needs.{needs}
+use borrow.Author.Tests.{not-true, not-false}
+use denote.Ref.{now}
+use lib.ListN.{length}
 use Rattle.codes.specs.BytesLaws.{allBytes-elements}
 use Rattle.headers.specs.CompressibleLaws.{compressible-true}
+use Rattle.headers.specs.Header.{headerOf}
+use Rattle.settings.specs.Settings.{lengthAllowed}
+use Rattle.packet.specs.declared.header.Header.{Header}
+use Rattle.compressor.specs.declared.table.Table.{Table}
 use Rattle.compressor.specs.CanSendLaws.{sound-most, canSend-on}
 use Rattle.compressor.specs.TableLaws.{soundOf-true}
 use Rattle.compressor.specs.Lookup.{placeIn}
-use Rattle.compressor.specs.Table.{soundOf}
-use Rattle.settings.specs.Settings.{lengthAllowed}
-use Rattle.context.proofs.Arrays.{length-mapped}
+use Rattle.compressor.specs.Send.{sendOf}
+use Rattle.compressor.specs.CanSend.{sendWith}
+use Rattle.planes.specs.Planes.{Lent, lent}
+use Rattle.compressor_table.specs.Layout.{tableOf}
+use Rattle.compressor_table.specs.LayoutLaws.{sound-fits, length-tableOf}
+use Rattle.compressor_table.specs.CallsLaws.{gives-kept, gives-by}
 use Rattle.send.proofs.Ways.{way-unsound, way-length, way-plain, way-nowhere, way-at, way-on}
-use borrow.Author.Needs.{needs}
 use Rattle.send.proofs.send.Statement.{statement}
 use Rattle.send.proofs.send.Tie as tie
+use Rattle.send.proofs.send.Reads as reads
+use Rattle.send.proofs.send.Lts as lts
+use Rattle.compressor_walk.proofs.lookup.find.Reads as find-reads
+use Rattle.compressor_walk.proofs.sound.sound.Reads as sound-reads
+use Rattle.headers_read.proofs.form.is_compressible.Reads as is-compressible-reads
+use Rattle.headers_read.proofs.read.read_header.Reads as read-header-reads
+use Rattle.send.proofs.send_on.Reads as send-on-reads
+use Rattle.send.proofs.send_plain.Reads as send-plain-reads
 
-contexts-length : (c : tie.Start) → length (c .args .t .contexts) ≡ 64
-contexts-length c = search (needs, length-mapped)
+abbrev handed : tie.Start → Lent
+handed s = lent (now (s .args .w)) (now (s .args .h)) (now (s .args .b))
+
+abbrev held : tie.Start → Table
+held s = tableOf (handed s)
 
 sound-requires : tie.Need-sound-requires
 sound-requires c κs = search needs
 
+same-length : tie.Need-same-length
+same-length c = search needs
+
+same-length-2 : tie.Need-same-length-2
+same-length-2 c = search needs
+
+same-length-3 : tie.Need-same-length-3
+same-length-3 c = search needs
+
 returns : tie.Need-returns
-returns c = let a = c .before .before .before .before .args in
-    way-unsound (a .t) (a .p .now) (a .out .now) (sym (c .before .sound .ensures) ∙ not-true _ (c .if1 .taken))
+returns c =
+    let s = (c .before .before .before .before .before .before .before .before .before .before) in
+    let a = s .args in
+    gives-kept (handed s) _ (a .out .now) (sendOf (held s) (a .p .now) (a .out .now))
+    (way-unsound (held s) (a .p .now) (a .out .now) (sym (c .before .sound .ensures) ∙ not-true _ (c .if1 .taken)))
+
+same-length-4 : tie.Need-same-length-4
+same-length-4 c = search needs
+
+same-length-5 : tie.Need-same-length-5
+same-length-5 c = search needs
+
+same-length-6 : tie.Need-same-length-6
+same-length-6 c = search needs
 
 returns-2 : tie.Need-returns-2
-returns-2 c = let a = c .before .before .before .before .before .args in
-    way-length (a .t) (a .p .now) (a .out .now) (sym (c .before .before .sound .ensures) ∙ not-false _ (c .before .if1 .left))
-    (not-true (lengthAllowed (length (a .p .now))) (c .if2 .taken))
+returns-2 c =
+    let s = (c .before .before .before .before .before .before .before .before .before .before .before) in
+    let a = s .args in
+    gives-kept (handed s) _ (a .out .now) (sendOf (held s) (a .p .now) (a .out .now))
+    (way-length (held s) (a .p .now) (a .out .now) (sym (c .before .before .sound .ensures) ∙ not-false _ (c .before .if1 .left))
+    (not-true (lengthAllowed (length (a .p .now))) (c .if2 .taken)))
 
 is-compressible-requires : tie.Need-is-compressible-requires
 is-compressible-requires c κs = search needs
@@ -36,55 +79,84 @@ is-compressible-requires c κs = search needs
 send-plain-requires : tie.Need-send-plain-requires
 send-plain-requires c κs = search needs
 
-same-length : tie.Need-same-length
-same-length c = search needs
+same-length-7 : tie.Need-same-length-7
+same-length-7 c = search needs
+
+same-length-8 : tie.Need-same-length-8
+same-length-8 c = search needs
+
+same-length-9 : tie.Need-same-length-9
+same-length-9 c = search needs
+
+same-length-10 : tie.Need-same-length-10
+same-length-10 c = search needs
 
 returns-3 : tie.Need-returns-3
-returns-3 c = let a = c .before .before .before .before .before .before .before .before .before .before .before .args in
-    c .before .before .send-plain .ensures
-    ∙ way-plain (a .t) (a .p .now) (a .out .now)
-    (sym (c .before .before .before .before .before .before .before .before .sound .ensures)
-    ∙ not-false _ (c .before .before .before .before .before .before .before .if1 .left))
-    (not-false (lengthAllowed (length (a .p .now))) (c .before .before .before .before .before .before .if2 .left))
-    (sym (c .before .before .before .before .before .is-compressible .ensures)
-    ∙ not-true _ (c .before .before .before .before .if3 .taken))
+returns-3 c =
+    let s = (c .before .before .before .before .before .before .before .before .before .before .before .before .before .before
+    .before .before .before) in
+    let a = s .args in
+    gives-kept (handed s) (c .before .before .send-plain .result) _ (sendOf (held s) (a .p .now) (a .out .now))
+    (c .before .before .send-plain .ensures (held s)
+    ∙ way-plain (held s) (a .p .now) (a .out .now) (sym (c .before .before .before .before .before .before .before .before .sound
+    .ensures) ∙ not-false _ (c .before .before .before .before .before .before .before .if1 .left)) (not-false (lengthAllowed
+    (length (a .p .now))) (c .before .before .before .before .before .before .if2 .left))
+    (sym (c .before .before .before .before .before .is-compressible .ensures) ∙ not-true _ (c .before .before .before .before
+    .if3 .taken)))
 
 read-header-requires : tie.Need-read-header-requires
-read-header-requires c κs = let k = compressible-true (c .before .before .before .before .before .before .before .args .p .now)
-    (sym (c .before .is-compressible .ensures) ∙ not-false _ (c .if3 .left)) in
+read-header-requires c κs =
+    let k = compressible-true (c .before .before .before .before .before .before .before .before .before .before .before .before
+    .before .args .p .now) (sym (c .before .is-compressible .ensures) ∙ not-false _ (c .if3 .left)) in
     omega (arith, k .enough, k .list)
 
 find-requires : tie.Need-find-requires
-find-requires c κs = let a = c .before .before .before .before .before .before .before .before .before .args in
-    sound-most (a .t)
-    (soundOf-true (a .t) (sym (c .before .before .before .before .before .before .sound .ensures)
-    ∙ not-false _ (c .before .before .before .before .before .if1 .left)))
+find-requires c κs =
+    let s = (c .before .before .before .before .before .before .before .before .before .before .before .before .before .before
+    .before .before .before .before) in (
+      sound-fits (handed s) (sym (c .before .before .before .before .before .before .before .before .before .sound .ensures) ∙
+          not-false _ (c .before .before .before .before .before .before .before .before .if1 .left)),
+      sound-most (held s)
+          (soundOf-true (held s) (sym (c .before .before .before .before .before .before .before .before .before .sound
+          .ensures) ∙ not-false _ (c .before .before .before .before .before .before .before .before .if1 .left))),
+    )
 
 enum-known-i : tie.Need-enum-known-i
 enum-known-i c = search needs
 
 send-on-requires : tie.Need-send-on-requires
-send-on-requires c κs = let a =
-    c .before .before .before .before .before .before .before .before .before .before .before .before .before .before .args in
-    rw (c .before .before .before .before .before .before .read-header .ensures)
-    (canSend-on (a .t) (a .p .now) (c .before .before .i .given .0 .0)
-    (contexts-length
-    (c .before .before .before .before .before .before .before .before .before .before .before .before .before .before))
-    (allBytes-elements (a .p .now)
-    (λ j. omega (
-      arith,
-      c .before .before .before .before .before .before .before .before .before .before .before .before
-          .before .shared-slice-known .given j,
-    )))
-    (way-on (a .t) (a .p .now) (a .out .now)
-    (sym (c .before .before .before .before .before .before .before .before .before .before .before .sound .ensures)
-    ∙ not-false _ (c .before .before .before .before .before .before .before .before .before .before .if1 .left))
-    (not-false (lengthAllowed (length (a .p .now)))
-    (c .before .before .before .before .before .before .before .before .before .if2 .left))
-    (sym (c .before .before .before .before .before .before .before .before .is-compressible .ensures)
-    ∙ not-false _ (c .before .before .before .before .before .before .before .if3 .left)) (c .before .before .i .given .0 .0)
-    (sym (rw (c .before .before .before .before .before .before .read-header .ensures) at
-    (c .before .before .before .before .find .ensures)) ∙ ap placeIn (c .before .before .i .given .1))))
+send-on-requires c κs =
+    let s = (c .before .before .before .before .before .before .before .before .before .before .before .before .before .before
+    .before .before .before .before .before .before .before .before .before .before .before .before) in
+    let a = s .args in (
+      sound-fits (handed s) (sym (c .before .before .before .before .before .before .before .before .before .before .before
+          .before .before .before .before .before .before .sound .ensures) ∙ not-false _ (c .before .before .before .before
+          .before .before .before .before .before .before .before .before .before .before .before .before .if1 .left)),
+      rw (c .before .before .before .before .before .before .before .before .before .before .before .before .read-header .ensures)
+          (canSend-on (held s) (a .p .now) (c .before .before .before .before .before .i .given .0 .0) (length-tableOf (handed s)
+          (sound-fits (handed s) (sym (c .before .before .before .before .before .before .before .before .before .before
+          .before .before .before .before .before .before .before .sound .ensures) ∙ not-false _ (c .before .before
+          .before .before .before .before .before .before .before .before .before .before .before .before .before
+          .before .if1 .left))))
+          (allBytes-elements (a .p .now) (λ j. omega (
+            arith,
+            c .before .before .before .before .before .before .before .before
+                .before .before .before .before .before .before .before .before .before .before .before .before .before .before
+                .shared-slice-known .given j,
+          )))
+          (way-on (held s) (a .p .now) (a .out .now) (sym (c .before .before .before .before .before .before .before .before
+          .before .before .before .before .before .before .before .before .before .sound .ensures) ∙ not-false _ (c .before
+          .before .before .before .before .before .before .before .before .before .before .before .before .before .before
+          .before .if1 .left)) (not-false (lengthAllowed (length (a .p .now))) (c .before .before .before .before
+          .before .before .before .before .before .before .before .before .before .before .before .if2 .left))
+          (sym (c .before .before .before .before .before .before .before .before .before .before .before
+          .before .before .before .is-compressible .ensures) ∙ not-false _ (c .before .before .before
+          .before .before .before .before .before .before .before .before .before .before .if3 .left))
+          (c .before .before .before .before .before .i .given .0 .0)
+          (sym (rw (c .before .before .before .before .before .before .before .before .before .before .before .before .read-header
+          .ensures) at (c .before .before .before .before .before .before .before .find .ensures)) ∙ ap placeIn (c .before
+          .before .before .before .before .i .given .1)))),
+    )
 
 enum-told : tie.Need-enum-told
 enum-told c = search needs
@@ -92,56 +164,105 @@ enum-told c = search needs
 send-plain-requires-2 : tie.Need-send-plain-requires-2
 send-plain-requires-2 c κs = search needs
 
-same-length-2 : tie.Need-same-length-2
-same-length-2 c = search needs
+same-length-11 : tie.Need-same-length-11
+same-length-11 c = search needs
+
+same-length-12 : tie.Need-same-length-12
+same-length-12 c = search needs
+
+same-length-13 : tie.Need-same-length-13
+same-length-13 c = search needs
+
+same-length-14 : tie.Need-same-length-14
+same-length-14 c = search needs
 
 returns-4 : tie.Need-returns-4
-returns-4 c = let a =
-    c .before .before .before .before .before .before .before .before .before .before .before .before .before .before
-    .before .before .before .args in
-    (rw (c .before .before .before .before .before .before .before .before .before .read-header .ensures) at
-    (c .before .before .send-on .ensures)) ∙
-    way-at (a .t) (a .p .now) (a .out .now)
-    (sym (c .before .before .before .before .before .before .before .before .before .before .before .before .before
-    .before .sound .ensures) ∙ not-false _ (c .before .before .before .before .before .before .before .before
-    .before .before .before .before .before .if1 .left)) (not-false (lengthAllowed (length (a .p .now)))
-    (c .before .before .before .before .before .before .before .before .before .before .before .before .if2 .left))
-    (sym (c .before .before .before .before .before .before .before .before .before .before .before .is-compressible .ensures)
-    ∙ not-false _ (c .before .before .before .before .before .before .before .before .before .before .if3 .left))
-    (c .before .before .before .before .before .i .given .0 .0)
-    (sym (rw (c .before .before .before .before .before .before .before .before .before .read-header .ensures) at
-    (c .before .before .before .before .before .before .before .find .ensures))
-    ∙ ap placeIn (c .before .before .before .before .before .i .given .1))
+returns-4 c =
+    let s = (c .before .before .before .before .before .before .before .before .before .before .before .before .before .before
+    .before .before .before .before .before .before .before .before .before .before .before .before .before .before .before
+    .before .before .before .before .before .before) in
+    let a = s .args in
+    gives-by (handed s) _ (c .before .before .before .before .before .before .before .before .send-on .result) _
+    (sendWith (held s) (c .before .before .before .before .before .before .before .before .before .before .before .before .before
+    .before .i .given .0 .0) (a .p .now) (a .out .now) (c .before .before .before .before .before .before .before .before
+    .before .before .before .before .before .before .before .before .before .before .before .before .before .read-header
+    .result))
+    (sendOf (held s) (a .p .now) (a .out .now))
+    (ap (λ (x : Header). sendWith (held s) (c .before .before .before .before .before .before .before .before .before .before
+    .before .before .before .before .i .given .0 .0) (a .p .now) (a .out .now) x)
+    (c .before .before .before .before .before .before .before .before .before .before .before .before .before .before .before
+    .before .before .before .before .before .before .read-header .ensures)
+    ∙ way-at (held s) (a .p .now) (a .out .now) (sym (c .before .before .before .before .before .before .before .before .before
+    .before .before .before .before .before .before .before .before .before .before .before .before .before .before .before
+    .before .before .sound .ensures) ∙ not-false _ (c .before .before .before .before .before .before .before .before
+    .before .before .before .before .before .before .before .before .before .before .before .before .before .before
+    .before .before .before .if1 .left)) (not-false (lengthAllowed (length (a .p .now))) (c .before .before
+    .before .before .before .before .before .before .before .before .before .before .before .before .before
+    .before .before .before .before .before .before .before .before .before .if2 .left)) (sym (c .before
+    .before .before .before .before .before .before .before .before .before .before .before .before
+    .before .before .before .before .before .before .before .before .before .before
+    .is-compressible .ensures) ∙ not-false _ (c .before .before .before .before .before
+    .before .before .before .before .before .before .before .before .before .before
+    .before .before .before .before .before .before .before .if3 .left)) (c .before
+    .before .before .before .before .before .before .before .before .before
+    .before .before .before .before .i .given .0 .0)
+    (sym (rw (c .before .before .before .before .before .before .before .before .before .before .before .before .before .before
+    .before .before .before .before .before .before .before .read-header .ensures) at (c .before .before .before .before
+    .before .before .before .before .before .before .before .before .before .before .before .before .find .ensures)) ∙ ap
+    placeIn (c .before .before .before .before .before .before .before .before .before .before .before .before .before
+    .before .i .given .1)))
+    (c .before .before .before .before .before .before .before .before .send-on .ensures)
 
-same-length-3 : tie.Need-same-length-3
-same-length-3 c = search needs
+same-length-15 : tie.Need-same-length-15
+same-length-15 c = search needs
+
+same-length-16 : tie.Need-same-length-16
+same-length-16 c = search needs
+
+same-length-17 : tie.Need-same-length-17
+same-length-17 c = search needs
+
+same-length-18 : tie.Need-same-length-18
+same-length-18 c = search needs
 
 returns-5 : tie.Need-returns-5
-returns-5 c = let a =
-    c .before .before .before .before .before .before .before .before .before .before .before .before .before .before
-    .before .before .args in
-    c .before .before .send-plain2 .ensures ∙
-    way-nowhere (a .t) (a .p .now) (a .out .now)
-    (sym (c .before .before .before .before .before .before .before .before .before .before .before .before .before .sound .ensures)
-    ∙ not-false _ (c .before .before .before .before .before .before .before .before .before .before .before .before .if1 .left))
-    (not-false (lengthAllowed (length (a .p .now)))
-    (c .before .before .before .before .before .before .before .before .before .before .before .if2 .left))
-    (sym (c .before .before .before .before .before .before .before .before .before .before .is-compressible .ensures)
-    ∙ not-false _ (c .before .before .before .before .before .before .before .before .before .if3 .left))
-    (sym (rw (c .before .before .before .before .before .before .before .before .read-header .ensures) at
-    (c .before .before .before .before .before .before .find .ensures))
-    ∙ ap placeIn (c .before .before .before .before .enum-told .given .1))
+returns-5 c =
+    let s = (c .before .before .before .before .before .before .before .before .before .before .before .before .before .before
+    .before .before .before .before .before .before .before .before .before .before .before) in
+    let a = s .args in
+    gives-kept (handed s) (c .before .before .send-plain2 .result) _ (sendOf (held s) (a .p .now) (a .out .now))
+    (c .before .before .send-plain2 .ensures (held s)
+    ∙ way-nowhere (held s) (a .p .now) (a .out .now) (sym (c .before .before .before .before .before .before .before .before
+    .before .before .before .before .before .before .before .before .sound .ensures) ∙ not-false _ (c .before .before .before
+    .before .before .before .before .before .before .before .before .before .before .before .before .if1 .left))
+    (not-false (lengthAllowed (length (a .p .now))) (c .before .before .before .before .before .before .before .before
+    .before .before .before .before .before .before .if2 .left)) (sym (c .before .before .before .before .before
+    .before .before .before .before .before .before .before .before .is-compressible .ensures) ∙ not-false _
+    (c .before .before .before .before .before .before .before .before .before .before .before .before
+    .if3 .left))
+    (sym (rw (c .before .before .before .before .before .before .before .before .before .before .before .read-header .ensures) at
+    (c .before .before .before .before .before .before .find .ensures)) ∙ ap placeIn (c .before .before .before .before
+    .enum-told .given .1)))
 
 pub send-spec : {M : Type 1} → statement M
 send-spec =
     tie.close
     (tie.spec
     sound-requires
+    same-length
+    same-length-2
+    same-length-3
     returns
+    same-length-4
+    same-length-5
+    same-length-6
     returns-2
     is-compressible-requires
     send-plain-requires
-    same-length
+    same-length-7
+    same-length-8
+    same-length-9
+    same-length-10
     returns-3
     read-header-requires
     find-requires
@@ -149,7 +270,13 @@ send-spec =
     send-on-requires
     enum-told
     send-plain-requires-2
-    same-length-2
+    same-length-11
+    same-length-12
+    same-length-13
+    same-length-14
     returns-4
-    same-length-3
+    same-length-15
+    same-length-16
+    same-length-17
+    same-length-18
     returns-5)

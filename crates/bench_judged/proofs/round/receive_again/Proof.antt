@@ -1,25 +1,21 @@
-use borrow.Author.Needs.{needs}
-use Prim.Native.Nat.{_≤_, _-_}
 use mathlib.Core.Path.{_≡_}
 use lib.ListN.{length}
+use Prim.Native.Nat.{_≤_, _-_}
+use borrow.Author.Needs.{needs}
 use Rattle.bench_judged.proofs.round.receive_again.Statement.{statement}
 use Rattle.bench_judged.proofs.round.receive_again.Tie as tie
-use Rattle.std.proofs.num.wrapping_add_u32.Reads as wrapping-add-u32-reads
 
 abbrev Inv-loop : tie.InvT-loop
-Inv-loop t link out₀ count size whole₀ i₀ out whole i = (i ≤ count) × (length out ≡ length out₀)
+Inv-loop w h b link out₀ count whole₀ i₀ out whole i = (i ≤ count) × (length out ≡ length out₀)
 
 abbrev μ-loop : tie.MeasureT-loop
-μ-loop t link out₀ count size whole₀ i₀ out whole i = count - i
+μ-loop w h b link out₀ count whole₀ i₀ out whole i = count - i
 
 loop-holds : tie.Need-loop-holds Inv-loop μ-loop
 loop-holds c = search needs
 
-receive-requires : tie.Need-receive-requires Inv-loop μ-loop
-receive-requires c κs = search needs
-
-is-whole-requires : tie.Need-is-whole-requires Inv-loop μ-loop
-is-whole-requires c κs = search needs
+receive-once-requires : tie.Need-receive-once-requires Inv-loop μ-loop
+receive-once-requires c κs = search needs
 
 cast-wrapping-add-u32 : tie.Need-cast-wrapping-add-u32 Inv-loop μ-loop
 cast-wrapping-add-u32 c = search needs
@@ -49,8 +45,7 @@ receive-again-spec =
     Inv-loop
     μ-loop
     loop-holds
-    receive-requires
-    is-whole-requires
+    receive-once-requires
     cast-wrapping-add-u32
     wrapping-add-u32-requires
     add-i

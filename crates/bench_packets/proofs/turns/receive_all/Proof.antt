@@ -1,16 +1,16 @@
 use mathlib.Core.Path.{_≡_}
 use lib.ListN.{length}
-use Prim.Native.Nat.{_≤_, _<_, _-_, _+_, _*_}
+use Prim.Native.Nat.{_≤_, _-_}
 use borrow.Author.Needs.{needs}
 use Rattle.bench_packets.proofs.turns.receive_all.Statement.{statement}
 use Rattle.bench_packets.proofs.turns.receive_all.Tie as tie
 
 abbrev Inv-loop : tie.InvT-loop
-Inv-loop links kinds lengths rebuilt₀ table₀ i₀ rebuilt table i = (i ≤ 64) × (length links ≡ 12800) × (length kinds ≡ 64)
-    × (length lengths ≡ 64) × (length rebuilt₀ ≡ 12800) × (length rebuilt ≡ 12800)
+Inv-loop w₀ h₀ b₀ links kinds lengths rebuilt₀ i₀ w h b rebuilt i = (i ≤ 64) × (length w ≡ length w₀) × (length h ≡ length h₀) × (length b ≡ length b₀)
+    × (length links ≡ 12800) × (length kinds ≡ 64) × (length lengths ≡ 64) × (length rebuilt₀ ≡ 12800) × (length rebuilt ≡ 12800)
 
 abbrev μ-loop : tie.MeasureT-loop
-μ-loop links kinds lengths rebuilt₀ table₀ i₀ rebuilt table i = 64 - i
+μ-loop w₀ h₀ b₀ links kinds lengths rebuilt₀ i₀ w h b rebuilt i = 64 - i
 
 returns : tie.Need-returns Inv-loop μ-loop
 returns c = search needs
@@ -84,6 +84,15 @@ loop-again c = search needs
 same-length : tie.Need-same-length Inv-loop μ-loop
 same-length c = search needs
 
+same-length-2 : tie.Need-same-length-2 Inv-loop μ-loop
+same-length-2 c = search needs
+
+same-length-3 : tie.Need-same-length-3 Inv-loop μ-loop
+same-length-3 c = search needs
+
+same-length-4 : tie.Need-same-length-4 Inv-loop μ-loop
+same-length-4 c = search needs
+
 returns-5 : tie.Need-returns-5 Inv-loop μ-loop
 returns-5 c = search needs
 
@@ -117,4 +126,7 @@ receive-all-spec =
     loop-less
     loop-again
     same-length
+    same-length-2
+    same-length-3
+    same-length-4
     returns-5)

@@ -1,19 +1,18 @@
-use lib.ListN.{length-set}
-use native.Mathlib.Omega.{arith}
 use mathlib.Core.Path.{_≡_}
-use lib.ListN.{length}
-use Prim.Native.Nat.{_≤_, _<_, _-_, _+_, _*_}
+use lib.ListN.{length, length-set}
+use Prim.Native.Nat.{_≤_, _-_}
+use native.Mathlib.Omega.{arith}
 use borrow.Author.Needs.{needs}
 use Rattle.bench_packets.proofs.turns.send_all.Statement.{statement}
 use Rattle.bench_packets.proofs.turns.send_all.Tie as tie
 
 abbrev Inv-loop : tie.InvT-loop
-Inv-loop packets links₀ kinds₀ lengths₀ table₀ i₀ links kinds lengths table i = (i ≤ 64) × (length packets ≡ 12800)
-    × (length links₀ ≡ 12800) × (length links ≡ 12800) × (length kinds₀ ≡ 64) × (length kinds ≡ 64) × (length lengths₀ ≡ 64)
-    × (length lengths ≡ 64)
+Inv-loop w₀ h₀ b₀ packets links₀ kinds₀ lengths₀ i₀ w h b links kinds lengths i = (i ≤ 64) × (length w ≡ length w₀) × (length h ≡ length h₀) × (length b ≡ length b₀)
+    × (length packets ≡ 12800) × (length links₀ ≡ 12800) × (length links ≡ 12800) × (length kinds₀ ≡ 64) × (length kinds ≡ 64)
+    × (length lengths₀ ≡ 64) × (length lengths ≡ 64)
 
 abbrev μ-loop : tie.MeasureT-loop
-μ-loop packets links₀ kinds₀ lengths₀ table₀ i₀ links kinds lengths table i = 64 - i
+μ-loop w₀ h₀ b₀ packets links₀ kinds₀ lengths₀ i₀ w h b links kinds lengths i = 64 - i
 
 returns : tie.Need-returns Inv-loop μ-loop
 returns c = search needs
@@ -36,29 +35,26 @@ mul-at c = search needs
 add-end : tie.Need-add-end Inv-loop μ-loop
 add-end c = search needs
 
-sub-send : tie.Need-sub-send Inv-loop μ-loop
-sub-send c = search needs
+sub-send-one : tie.Need-sub-send-one Inv-loop μ-loop
+sub-send-one c = search needs
 
-part-send-start : tie.Need-part-send-start Inv-loop μ-loop
-part-send-start c = search needs
+part-send-one-start : tie.Need-part-send-one-start Inv-loop μ-loop
+part-send-one-start c = search needs
 
-part-send-end : tie.Need-part-send-end Inv-loop μ-loop
-part-send-end c = search needs
+part-send-one-end : tie.Need-part-send-one-end Inv-loop μ-loop
+part-send-one-end c = search needs
 
-sub-send-2 : tie.Need-sub-send-2 Inv-loop μ-loop
-sub-send-2 c = search needs
+sub-send-one-2 : tie.Need-sub-send-one-2 Inv-loop μ-loop
+sub-send-one-2 c = search needs
 
-part-send-start-2 : tie.Need-part-send-start-2 Inv-loop μ-loop
-part-send-start-2 c = search needs
+part-send-one-start-2 : tie.Need-part-send-one-start-2 Inv-loop μ-loop
+part-send-one-start-2 c = search needs
 
-part-send-end-2 : tie.Need-part-send-end-2 Inv-loop μ-loop
-part-send-end-2 c = search needs
+part-send-one-end-2 : tie.Need-part-send-one-end-2 Inv-loop μ-loop
+part-send-one-end-2 c = search needs
 
-send-requires : tie.Need-send-requires Inv-loop μ-loop
-send-requires c κs = search needs
-
-given-by-requires : tie.Need-given-by-requires Inv-loop μ-loop
-given-by-requires c κs = search needs
+send-one-requires : tie.Need-send-one-requires Inv-loop μ-loop
+send-one-requires c κs = search needs
 
 slice-write-kinds : tie.Need-slice-write-kinds Inv-loop μ-loop
 slice-write-kinds c = search needs
@@ -82,6 +78,9 @@ loop-again c = (
   omega arith,
   omega arith,
   omega arith,
+  omega arith,
+  omega arith,
+  omega arith,
   simp length-set (omega arith),
   omega arith,
   simp length-set (omega arith),
@@ -95,6 +94,15 @@ same-length-2 c = search needs
 
 same-length-3 : tie.Need-same-length-3 Inv-loop μ-loop
 same-length-3 c = search needs
+
+same-length-4 : tie.Need-same-length-4 Inv-loop μ-loop
+same-length-4 c = search needs
+
+same-length-5 : tie.Need-same-length-5 Inv-loop μ-loop
+same-length-5 c = search needs
+
+same-length-6 : tie.Need-same-length-6 Inv-loop μ-loop
+same-length-6 c = search needs
 
 returns-5 : tie.Need-returns-5 Inv-loop μ-loop
 returns-5 c = search needs
@@ -112,14 +120,13 @@ send-all-spec =
     loop-holds
     mul-at
     add-end
-    sub-send
-    part-send-start
-    part-send-end
-    sub-send-2
-    part-send-start-2
-    part-send-end-2
-    send-requires
-    given-by-requires
+    sub-send-one
+    part-send-one-start
+    part-send-one-end
+    sub-send-one-2
+    part-send-one-start-2
+    part-send-one-end-2
+    send-one-requires
     slice-write-kinds
     mul-lengths
     slice-write-lengths
@@ -129,4 +136,7 @@ send-all-spec =
     same-length
     same-length-2
     same-length-3
+    same-length-4
+    same-length-5
+    same-length-6
     returns-5)

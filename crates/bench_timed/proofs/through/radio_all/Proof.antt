@@ -1,16 +1,19 @@
 use mathlib.Core.Path.{_≡_}
 use lib.ListN.{length}
-use Prim.Native.Nat.{_≤_, _<_, _-_, _+_, _*_}
+use Prim.Native.Nat.{_≤_, _-_}
+use native.Mathlib.Omega.{arith}
 use borrow.Author.Needs.{needs}
 use Rattle.bench_timed.proofs.through.radio_all.Statement.{statement}
 use Rattle.bench_timed.proofs.through.radio_all.Tie as tie
 
 abbrev Inv-loop : tie.InvT-loop
-Inv-loop links kinds lengths rebuilt₀ e₀ i₀ rebuilt e i = (i ≤ 64) × (length links ≡ 12800) × (length kinds ≡ 64)
+Inv-loop cw₀ ch₀ cb₀ dw₀ dh₀ db₀ t₀ links kinds lengths rebuilt₀ i₀ cw ch cb dw dh db t rebuilt i =
+    (i ≤ 64) × (length cw ≡ length cw₀) × (length ch ≡ length ch₀) × (length cb ≡ length cb₀) × (length dw ≡ length dw₀)
+    × (length dh ≡ length dh₀) × (length db ≡ length db₀) × (length t ≡ length t₀) × (length links ≡ 12800) × (length kinds ≡ 64)
     × (length lengths ≡ 64) × (length rebuilt₀ ≡ 12800) × (length rebuilt ≡ 12800)
 
 abbrev μ-loop : tie.MeasureT-loop
-μ-loop links kinds lengths rebuilt₀ e₀ i₀ rebuilt e i = 64 - i
+μ-loop cw₀ ch₀ cb₀ dw₀ dh₀ db₀ t₀ links kinds lengths rebuilt₀ i₀ cw ch cb dw dh db t rebuilt i = 64 - i
 
 returns : tie.Need-returns Inv-loop μ-loop
 returns c = search needs
@@ -51,6 +54,15 @@ shared-slice-read-wide c = search needs
 wide-requires : tie.Need-wide-requires Inv-loop μ-loop
 wide-requires c κs = search needs
 
+sub-link : tie.Need-sub-link Inv-loop μ-loop
+sub-link c = search needs
+
+part-link-start : tie.Need-part-link-start Inv-loop μ-loop
+part-link-start c = search needs
+
+part-link-end : tie.Need-part-link-end Inv-loop μ-loop
+part-link-end c = search needs
+
 sub-from-radio : tie.Need-sub-from-radio Inv-loop μ-loop
 sub-from-radio c = search needs
 
@@ -60,29 +72,8 @@ part-from-radio-start c = search needs
 part-from-radio-end : tie.Need-part-from-radio-end Inv-loop μ-loop
 part-from-radio-end c = search needs
 
-sub-from-radio-2 : tie.Need-sub-from-radio-2 Inv-loop μ-loop
-sub-from-radio-2 c = search needs
-
-part-from-radio-start-2 : tie.Need-part-from-radio-start-2 Inv-loop μ-loop
-part-from-radio-start-2 c = search needs
-
-part-from-radio-end-2 : tie.Need-part-from-radio-end-2 Inv-loop μ-loop
-part-from-radio-end-2 c = search needs
-
 from-radio-requires : tie.Need-from-radio-requires Inv-loop μ-loop
 from-radio-requires c κs = search needs
-
-sub-mark : tie.Need-sub-mark Inv-loop μ-loop
-sub-mark c = search needs
-
-part-mark-start : tie.Need-part-mark-start Inv-loop μ-loop
-part-mark-start c = search needs
-
-part-mark-end : tie.Need-part-mark-end Inv-loop μ-loop
-part-mark-end c = search needs
-
-mark-requires : tie.Need-mark-requires Inv-loop μ-loop
-mark-requires c κs = search needs
 
 add-i : tie.Need-add-i Inv-loop μ-loop
 add-i c = search needs
@@ -91,10 +82,45 @@ loop-less : tie.Need-loop-less Inv-loop μ-loop
 loop-less c = search needs
 
 loop-again : tie.Need-loop-again Inv-loop μ-loop
-loop-again c = search needs
+loop-again c = (
+  omega arith,
+  omega arith,
+  omega arith,
+  omega arith,
+  omega arith,
+  omega arith,
+  omega arith,
+  omega arith,
+  omega arith,
+  omega arith,
+  omega arith,
+  omega arith,
+  omega arith,
+)
 
 same-length : tie.Need-same-length Inv-loop μ-loop
 same-length c = search needs
+
+same-length-2 : tie.Need-same-length-2 Inv-loop μ-loop
+same-length-2 c = search needs
+
+same-length-3 : tie.Need-same-length-3 Inv-loop μ-loop
+same-length-3 c = search needs
+
+same-length-4 : tie.Need-same-length-4 Inv-loop μ-loop
+same-length-4 c = search needs
+
+same-length-5 : tie.Need-same-length-5 Inv-loop μ-loop
+same-length-5 c = search needs
+
+same-length-6 : tie.Need-same-length-6 Inv-loop μ-loop
+same-length-6 c = search needs
+
+same-length-7 : tie.Need-same-length-7 Inv-loop μ-loop
+same-length-7 c = search needs
+
+same-length-8 : tie.Need-same-length-8 Inv-loop μ-loop
+same-length-8 c = search needs
 
 returns-5 : tie.Need-returns-5 Inv-loop μ-loop
 returns-5 c = search needs
@@ -118,19 +144,22 @@ radio-all-spec =
     add-past
     shared-slice-read-wide
     wide-requires
+    sub-link
+    part-link-start
+    part-link-end
     sub-from-radio
     part-from-radio-start
     part-from-radio-end
-    sub-from-radio-2
-    part-from-radio-start-2
-    part-from-radio-end-2
     from-radio-requires
-    sub-mark
-    part-mark-start
-    part-mark-end
-    mark-requires
     add-i
     loop-less
     loop-again
     same-length
+    same-length-2
+    same-length-3
+    same-length-4
+    same-length-5
+    same-length-6
+    same-length-7
+    same-length-8
     returns-5)

@@ -1,19 +1,18 @@
-use lib.ListN.{length-set}
-use native.Mathlib.Omega.{arith}
 use mathlib.Core.Path.{_≡_}
-use lib.ListN.{length}
-use Prim.Native.Nat.{_≤_, _<_, _-_, _+_, _*_}
+use lib.ListN.{length, length-set}
+use Prim.Native.Nat.{_≤_, _-_}
+use native.Mathlib.Omega.{arith}
 use borrow.Author.Needs.{needs}
 use Rattle.bench_timed.proofs.through.wire_all.Statement.{statement}
 use Rattle.bench_timed.proofs.through.wire_all.Tie as tie
 
 abbrev Inv-loop : tie.InvT-loop
-Inv-loop packets links₀ kinds₀ lengths₀ e₀ i₀ links kinds lengths e i = (i ≤ 64) × (length packets ≡ 12800)
-    × (length links₀ ≡ 12800) × (length links ≡ 12800) × (length kinds₀ ≡ 64) × (length kinds ≡ 64) × (length lengths₀ ≡ 64)
-    × (length lengths ≡ 64)
+Inv-loop w₀ h₀ b₀ t₀ packets links₀ kinds₀ lengths₀ i₀ w h b t links kinds lengths i = (i ≤ 64) × (length w ≡ length w₀) × (length h ≡ length h₀) × (length b ≡ length b₀) × (length t ≡ length t₀)
+    × (length packets ≡ 12800) × (length links₀ ≡ 12800) × (length links ≡ 12800) × (length kinds₀ ≡ 64) × (length kinds ≡ 64)
+    × (length lengths₀ ≡ 64) × (length lengths ≡ 64)
 
 abbrev μ-loop : tie.MeasureT-loop
-μ-loop packets links₀ kinds₀ lengths₀ e₀ i₀ links kinds lengths e i = 64 - i
+μ-loop w₀ h₀ b₀ t₀ packets links₀ kinds₀ lengths₀ i₀ w h b t links kinds lengths i = 64 - i
 
 returns : tie.Need-returns Inv-loop μ-loop
 returns c = search needs
@@ -36,29 +35,26 @@ mul-at c = search needs
 add-end : tie.Need-add-end Inv-loop μ-loop
 add-end c = search needs
 
-sub-from-wire : tie.Need-sub-from-wire Inv-loop μ-loop
-sub-from-wire c = search needs
+sub-wire-one : tie.Need-sub-wire-one Inv-loop μ-loop
+sub-wire-one c = search needs
 
-part-from-wire-start : tie.Need-part-from-wire-start Inv-loop μ-loop
-part-from-wire-start c = search needs
+part-wire-one-start : tie.Need-part-wire-one-start Inv-loop μ-loop
+part-wire-one-start c = search needs
 
-part-from-wire-end : tie.Need-part-from-wire-end Inv-loop μ-loop
-part-from-wire-end c = search needs
+part-wire-one-end : tie.Need-part-wire-one-end Inv-loop μ-loop
+part-wire-one-end c = search needs
 
-sub-from-wire-2 : tie.Need-sub-from-wire-2 Inv-loop μ-loop
-sub-from-wire-2 c = search needs
+sub-wire-one-2 : tie.Need-sub-wire-one-2 Inv-loop μ-loop
+sub-wire-one-2 c = search needs
 
-part-from-wire-start-2 : tie.Need-part-from-wire-start-2 Inv-loop μ-loop
-part-from-wire-start-2 c = search needs
+part-wire-one-start-2 : tie.Need-part-wire-one-start-2 Inv-loop μ-loop
+part-wire-one-start-2 c = search needs
 
-part-from-wire-end-2 : tie.Need-part-from-wire-end-2 Inv-loop μ-loop
-part-from-wire-end-2 c = search needs
+part-wire-one-end-2 : tie.Need-part-wire-one-end-2 Inv-loop μ-loop
+part-wire-one-end-2 c = search needs
 
-from-wire-requires : tie.Need-from-wire-requires Inv-loop μ-loop
-from-wire-requires c κs = search needs
-
-given-by-requires : tie.Need-given-by-requires Inv-loop μ-loop
-given-by-requires c κs = search needs
+wire-one-requires : tie.Need-wire-one-requires Inv-loop μ-loop
+wire-one-requires c κs = search needs
 
 slice-write-kinds : tie.Need-slice-write-kinds Inv-loop μ-loop
 slice-write-kinds c = search needs
@@ -82,6 +78,10 @@ loop-again c = (
   omega arith,
   omega arith,
   omega arith,
+  omega arith,
+  omega arith,
+  omega arith,
+  omega arith,
   simp length-set (omega arith),
   omega arith,
   simp length-set (omega arith),
@@ -95,6 +95,18 @@ same-length-2 c = search needs
 
 same-length-3 : tie.Need-same-length-3 Inv-loop μ-loop
 same-length-3 c = search needs
+
+same-length-4 : tie.Need-same-length-4 Inv-loop μ-loop
+same-length-4 c = search needs
+
+same-length-5 : tie.Need-same-length-5 Inv-loop μ-loop
+same-length-5 c = search needs
+
+same-length-6 : tie.Need-same-length-6 Inv-loop μ-loop
+same-length-6 c = search needs
+
+same-length-7 : tie.Need-same-length-7 Inv-loop μ-loop
+same-length-7 c = search needs
 
 returns-5 : tie.Need-returns-5 Inv-loop μ-loop
 returns-5 c = search needs
@@ -112,14 +124,13 @@ wire-all-spec =
     loop-holds
     mul-at
     add-end
-    sub-from-wire
-    part-from-wire-start
-    part-from-wire-end
-    sub-from-wire-2
-    part-from-wire-start-2
-    part-from-wire-end-2
-    from-wire-requires
-    given-by-requires
+    sub-wire-one
+    part-wire-one-start
+    part-wire-one-end
+    sub-wire-one-2
+    part-wire-one-start-2
+    part-wire-one-end-2
+    wire-one-requires
     slice-write-kinds
     mul-lengths
     slice-write-lengths
@@ -129,4 +140,8 @@ wire-all-spec =
     same-length
     same-length-2
     same-length-3
+    same-length-4
+    same-length-5
+    same-length-6
+    same-length-7
     returns-5)

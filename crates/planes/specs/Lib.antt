@@ -1,0 +1,4 @@
+pub mod Planes
+pub mod PlanesLaws
+pub mod EveryLaws
+pub mod ChainLaws
