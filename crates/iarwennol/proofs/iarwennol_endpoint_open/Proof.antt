@@ -45,7 +45,8 @@ same-length-7 c = search needs
 returns : tie.Need-returns
 returns c =
     let s = (c .before .before .before .before .before .before .before .before .before .before .before .before .before .before
-    .before .before .before .before .before .before .before .before .before .before .before .before .before .before .before .before) in
+    .before .before .before .before .before .before .before .before .before .before .before .before .before .before .before
+    .before) in
     let o = c .before .before .before .before .before .before .before .before .before .before .before .before .before .before
     .before .«open» in
     answered-as (handed s) _ (o .result) (c .pack-answer .result) _ _ (c .pack-answer .ensures) (o .ensures)

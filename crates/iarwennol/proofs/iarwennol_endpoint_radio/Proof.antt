@@ -48,7 +48,8 @@ same-length-8 c = search needs
 returns : tie.Need-returns
 returns c =
     let s = (c .before .before .before .before .before .before .before .before .before .before .before .before .before .before
-    .before .before .before .before .before .before .before .before .before .before .before .before .before .before .before .before .before .before .before .before .before) in
+    .before .before .before .before .before .before .before .before .before .before .before .before .before .before .before
+    .before .before .before .before .before .before) in
     let o = c .before .before .before .before .before .before .before .before .before .before .before .before .before .before
     .before .before .before .from-radio in
     answered-as (handed s) _ (o .result) (c .pack-answer .result) _ _ (c .pack-answer .ensures) (o .ensures)

@@ -6,7 +6,8 @@ use Rattle.bench_packets.proofs.turns.receive_all.Statement.{statement}
 use Rattle.bench_packets.proofs.turns.receive_all.Tie as tie
 
 abbrev Inv-loop : tie.InvT-loop
-Inv-loop w₀ h₀ b₀ links kinds lengths rebuilt₀ i₀ w h b rebuilt i = (i ≤ 64) × (length w ≡ length w₀) × (length h ≡ length h₀) × (length b ≡ length b₀)
+Inv-loop w₀ h₀ b₀ links kinds lengths rebuilt₀ i₀ w h b rebuilt i = (i ≤ 64) × (length w ≡ length w₀) × (length h ≡ length h₀) ×
+    (length b ≡ length b₀)
     × (length links ≡ 12800) × (length kinds ≡ 64) × (length lengths ≡ 64) × (length rebuilt₀ ≡ 12800) × (length rebuilt ≡ 12800)
 
 abbrev μ-loop : tie.MeasureT-loop
