@@ -56,8 +56,17 @@ fn hold_deltas(kept: Deltas, p: Parts) -> Deltas
 // The list that came replaces the context's. Stored only where one came: to choose between two lists costs fifteen words each time.
 fn take_list(listed: bool, new: Csrc, c: DecompressorContext) -> DecompressorContext
     ensures { λ r. ⌜ r ≡ record {
-        status = c .status; filled = c .filled; flow = c .flow; ip = c .ip; rtp = c .rtp; csrc = cond listed new (c .csrc);
-        carried = c .carried; marker = c .marker; deltas = c .deltas; link = c .link; } ⌝ }
+      status = c .status;
+      filled = c .filled;
+      flow = c .flow;
+      ip = c .ip;
+      rtp = c .rtp;
+      csrc = cond listed new (c .csrc);
+      carried = c .carried;
+      marker = c .marker;
+      deltas = c .deltas;
+      link = c .link;
+    } ⌝ }
 {
     let mut d = c;
     if listed {

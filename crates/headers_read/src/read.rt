@@ -56,7 +56,7 @@ fn read_marker(s: &[u8], at: usize) -> bool
 }
 
 // The CSRC list of an RTP header that begins at a place.
-pub fn list_at(s: &[u8], at: usize) -> Csrc
+pub fn read_rtp_list(s: &[u8], at: usize) -> Csrc
     requires { ⌜ at + (12 + 4 * countAt (now s) at) ≤ length (now s) ⌝ }
     ensures { λ r. ⌜ r ≡ rtpAt (now (s .entry)) at .csrc ⌝ }
 {
@@ -70,7 +70,7 @@ pub fn read_rtp(s: &[u8], at: usize) -> RtpHeader
     ensures { λ r. ⌜ r ≡ rtpAt (now (s .entry)) at ⌝ }
 {
     let fields = read_fields(s, at);
-    let list = list_at(s, at);
+    let list = read_rtp_list(s, at);
     RtpHeader {
         ssrc: long_at(s, at + 8),
         marker: read_marker(s, at),
@@ -127,7 +127,7 @@ pub fn read_header(p: &[u8]) -> Header
     requires { ⌜ sizeWith (countAt (now p) 28) ≤ length (now p) ⌝ }
     ensures { λ r. ⌜ r ≡ headerOf (now (p .entry)) ⌝ }
 {
-    let list = list_at(p, 28);
+    let list = read_rtp_list(p, 28);
     header_with(p, list)
 }
 

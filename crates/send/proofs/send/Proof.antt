@@ -22,14 +22,6 @@ use Rattle.compressor_table.specs.CallsLaws.{gives-kept, gives-by}
 use Rattle.send.proofs.Ways.{way-unsound, way-length, way-plain, way-nowhere, way-at, way-on}
 use Rattle.send.proofs.send.Statement.{statement}
 use Rattle.send.proofs.send.Tie as tie
-use Rattle.send.proofs.send.Reads as reads
-use Rattle.send.proofs.send.Lts as lts
-use Rattle.compressor_walk.proofs.lookup.find.Reads as find-reads
-use Rattle.compressor_walk.proofs.sound.sound.Reads as sound-reads
-use Rattle.headers_read.proofs.form.is_compressible.Reads as is-compressible-reads
-use Rattle.headers_read.proofs.read.read_header.Reads as read-header-reads
-use Rattle.send.proofs.send_on.Reads as send-on-reads
-use Rattle.send.proofs.send_plain.Reads as send-plain-reads
 
 abbrev handed : tie.Start → Lent
 handed s = lent (now (s .args .w)) (now (s .args .h)) (now (s .args .b))
@@ -93,32 +85,33 @@ same-length-10 c = search needs
 
 returns-3 : tie.Need-returns-3
 returns-3 c =
-    let s = (c .before .before .before .before .before .before .before .before .before .before .before .before .before .before
-    .before .before .before) in
+    let s = (c .before .before .before .before .before .before .before .before .before .before .before .before .before .before .before .before .before) in
     let a = s .args in
     gives-kept (handed s) (c .before .before .send-plain .result) _ (sendOf (held s) (a .p .now) (a .out .now))
     (c .before .before .send-plain .ensures (held s)
-    ∙ way-plain (held s) (a .p .now) (a .out .now) (sym (c .before .before .before .before .before .before .before .before .sound
-    .ensures) ∙ not-false _ (c .before .before .before .before .before .before .before .if1 .left)) (not-false (lengthAllowed
+    ∙ way-plain (held s) (a .p .now) (a .out .now) (sym (c .before .before .before .before .before .before .before .before .sound .ensures) ∙ not-false _ (c .before .before .before .before .before .before .before .if1 .left)) (not-false (lengthAllowed
     (length (a .p .now))) (c .before .before .before .before .before .before .if2 .left))
-    (sym (c .before .before .before .before .before .is-compressible .ensures) ∙ not-true _ (c .before .before .before .before
-    .if3 .taken)))
+    (sym (c .before .before .before .before .before .is-compressible .ensures) ∙ not-true _ (c .before .before .before .before .if3 .taken)))
 
-read-header-requires : tie.Need-read-header-requires
-read-header-requires c κs =
-    let k = compressible-true (c .before .before .before .before .before .before .before .before .before .before .before .before
-    .before .args .p .now) (sym (c .before .is-compressible .ensures) ∙ not-false _ (c .if3 .left)) in
+read-rtp-list-requires : tie.Need-read-rtp-list-requires
+read-rtp-list-requires c κs =
+    let k = compressible-true (c .before .before .before .before .before .before .before .before .before .before .before .before .before .args .p .now) (sym (c .before .is-compressible .ensures)
+    ∙ not-false _ (c .if3 .left)) in
     omega (arith, k .enough, k .list)
+
+header-with-requires : tie.Need-header-with-requires
+header-with-requires c κs =
+    let k = compressible-true (c .before .before .before .before .before .before .before .before .before .before .before .before .before .before .args .p .now) (sym (c .before .before .is-compressible .ensures)
+    ∙ not-false _ (c .before .if3 .left)) in
+    (omega (arith, k .enough, k .list), c .read-rtp-list .ensures)
 
 find-requires : tie.Need-find-requires
 find-requires c κs =
-    let s = (c .before .before .before .before .before .before .before .before .before .before .before .before .before .before
-    .before .before .before .before) in (
-      sound-fits (handed s) (sym (c .before .before .before .before .before .before .before .before .before .sound .ensures) ∙
-          not-false _ (c .before .before .before .before .before .before .before .before .if1 .left)),
+    let s = (c .before .before .before .before .before .before .before .before .before .before .before .before .before .before .before .before .before .before .before) in (
+      sound-fits (handed s) (sym (c .before .before .before .before .before .before .before .before .before .before .sound .ensures) ∙
+          not-false _ (c .before .before .before .before .before .before .before .before .before .if1 .left)),
       sound-most (held s)
-          (soundOf-true (held s) (sym (c .before .before .before .before .before .before .before .before .before .sound
-          .ensures) ∙ not-false _ (c .before .before .before .before .before .before .before .before .if1 .left))),
+          (soundOf-true (held s) (sym (c .before .before .before .before .before .before .before .before .before .before .sound .ensures) ∙ not-false _ (c .before .before .before .before .before .before .before .before .before .if1 .left))),
     )
 
 enum-known-i : tie.Need-enum-known-i
@@ -126,36 +119,20 @@ enum-known-i c = search needs
 
 send-on-requires : tie.Need-send-on-requires
 send-on-requires c κs =
-    let s = (c .before .before .before .before .before .before .before .before .before .before .before .before .before .before
-    .before .before .before .before .before .before .before .before .before .before .before .before) in
+    let s = (c .before .before .before .before .before .before .before .before .before .before .before .before .before .before .before .before .before .before .before .before .before .before .before .before .before .before .before) in
     let a = s .args in (
-      sound-fits (handed s) (sym (c .before .before .before .before .before .before .before .before .before .before .before
-          .before .before .before .before .before .before .sound .ensures) ∙ not-false _ (c .before .before .before .before
-          .before .before .before .before .before .before .before .before .before .before .before .before .if1 .left)),
-      rw (c .before .before .before .before .before .before .before .before .before .before .before .before .read-header .ensures)
+      sound-fits (handed s) (sym (c .before .before .before .before .before .before .before .before .before .before .before .before .before .before .before .before .before .before .sound .ensures) ∙ not-false _ (c .before .before .before .before .before .before .before .before .before .before .before .before .before .before .before .before .before .if1 .left)),
+      rw (c .before .before .before .before .before .before .before .before .before .before .before .before .header-with .ensures)
           (canSend-on (held s) (a .p .now) (c .before .before .before .before .before .i .given .0 .0) (length-tableOf (handed s)
-          (sound-fits (handed s) (sym (c .before .before .before .before .before .before .before .before .before .before
-          .before .before .before .before .before .before .before .sound .ensures) ∙ not-false _ (c .before .before
-          .before .before .before .before .before .before .before .before .before .before .before .before .before
-          .before .if1 .left))))
+          (sound-fits (handed s) (sym (c .before .before .before .before .before .before .before .before .before .before .before .before .before .before .before .before .before .before .sound .ensures) ∙ not-false _ (c .before .before .before .before .before .before .before .before .before .before .before .before .before .before .before .before .before .if1 .left))))
           (allBytes-elements (a .p .now) (λ j. omega (
             arith,
-            c .before .before .before .before .before .before .before .before
-                .before .before .before .before .before .before .before .before .before .before .before .before .before .before
-                .shared-slice-known .given j,
+            c .before .before .before .before .before .before .before .before .before .before .before .before .before .before .before .before .before .before .before .before .before .before .before .shared-slice-known .given j,
           )))
-          (way-on (held s) (a .p .now) (a .out .now) (sym (c .before .before .before .before .before .before .before .before
-          .before .before .before .before .before .before .before .before .before .sound .ensures) ∙ not-false _ (c .before
-          .before .before .before .before .before .before .before .before .before .before .before .before .before .before
-          .before .if1 .left)) (not-false (lengthAllowed (length (a .p .now))) (c .before .before .before .before
-          .before .before .before .before .before .before .before .before .before .before .before .if2 .left))
-          (sym (c .before .before .before .before .before .before .before .before .before .before .before
-          .before .before .before .is-compressible .ensures) ∙ not-false _ (c .before .before .before
-          .before .before .before .before .before .before .before .before .before .before .if3 .left))
+          (way-on (held s) (a .p .now) (a .out .now) (sym (c .before .before .before .before .before .before .before .before .before .before .before .before .before .before .before .before .before .before .sound .ensures) ∙ not-false _ (c .before .before .before .before .before .before .before .before .before .before .before .before .before .before .before .before .before .if1 .left)) (not-false (lengthAllowed (length (a .p .now))) (c .before .before .before .before .before .before .before .before .before .before .before .before .before .before .before .before .if2 .left))
+          (sym (c .before .before .before .before .before .before .before .before .before .before .before .before .before .before .before .is-compressible .ensures) ∙ not-false _ (c .before .before .before .before .before .before .before .before .before .before .before .before .before .before .if3 .left))
           (c .before .before .before .before .before .i .given .0 .0)
-          (sym (rw (c .before .before .before .before .before .before .before .before .before .before .before .before .read-header
-          .ensures) at (c .before .before .before .before .before .before .before .find .ensures)) ∙ ap placeIn (c .before
-          .before .before .before .before .i .given .1)))),
+          (sym (rw (c .before .before .before .before .before .before .before .before .before .before .before .before .header-with .ensures) at (c .before .before .before .before .before .before .before .find .ensures)) ∙ ap placeIn (c .before .before .before .before .before .i .given .1)))),
     )
 
 enum-told : tie.Need-enum-told
@@ -178,39 +155,16 @@ same-length-14 c = search needs
 
 returns-4 : tie.Need-returns-4
 returns-4 c =
-    let s = (c .before .before .before .before .before .before .before .before .before .before .before .before .before .before
-    .before .before .before .before .before .before .before .before .before .before .before .before .before .before .before
-    .before .before .before .before .before .before) in
+    let s = (c .before .before .before .before .before .before .before .before .before .before .before .before .before .before .before .before .before .before .before .before .before .before .before .before .before .before .before .before .before .before .before .before .before .before .before .before) in
     let a = s .args in
     gives-by (handed s) _ (c .before .before .before .before .before .before .before .before .send-on .result) _
-    (sendWith (held s) (c .before .before .before .before .before .before .before .before .before .before .before .before .before
-    .before .i .given .0 .0) (a .p .now) (a .out .now) (c .before .before .before .before .before .before .before .before
-    .before .before .before .before .before .before .before .before .before .before .before .before .before .read-header
-    .result))
+    (sendWith (held s) (c .before .before .before .before .before .before .before .before .before .before .before .before .before .before .i .given .0 .0) (a .p .now) (a .out .now) (c .before .before .before .before .before .before .before .before .before .before .before .before .before .before .before .before .before .before .before .before .before .header-with .result))
     (sendOf (held s) (a .p .now) (a .out .now))
-    (ap (λ (x : Header). sendWith (held s) (c .before .before .before .before .before .before .before .before .before .before
-    .before .before .before .before .i .given .0 .0) (a .p .now) (a .out .now) x)
-    (c .before .before .before .before .before .before .before .before .before .before .before .before .before .before .before
-    .before .before .before .before .before .before .read-header .ensures)
-    ∙ way-at (held s) (a .p .now) (a .out .now) (sym (c .before .before .before .before .before .before .before .before .before
-    .before .before .before .before .before .before .before .before .before .before .before .before .before .before .before
-    .before .before .sound .ensures) ∙ not-false _ (c .before .before .before .before .before .before .before .before
-    .before .before .before .before .before .before .before .before .before .before .before .before .before .before
-    .before .before .before .if1 .left)) (not-false (lengthAllowed (length (a .p .now))) (c .before .before
-    .before .before .before .before .before .before .before .before .before .before .before .before .before
-    .before .before .before .before .before .before .before .before .before .if2 .left)) (sym (c .before
-    .before .before .before .before .before .before .before .before .before .before .before .before
-    .before .before .before .before .before .before .before .before .before .before
-    .is-compressible .ensures) ∙ not-false _ (c .before .before .before .before .before
-    .before .before .before .before .before .before .before .before .before .before
-    .before .before .before .before .before .before .before .if3 .left)) (c .before
-    .before .before .before .before .before .before .before .before .before
-    .before .before .before .before .i .given .0 .0)
-    (sym (rw (c .before .before .before .before .before .before .before .before .before .before .before .before .before .before
-    .before .before .before .before .before .before .before .read-header .ensures) at (c .before .before .before .before
-    .before .before .before .before .before .before .before .before .before .before .before .before .find .ensures)) ∙ ap
-    placeIn (c .before .before .before .before .before .before .before .before .before .before .before .before .before
-    .before .i .given .1)))
+    (ap (λ (x : Header). sendWith (held s) (c .before .before .before .before .before .before .before .before .before .before .before .before .before .before .i .given .0 .0) (a .p .now) (a .out .now) x)
+    (c .before .before .before .before .before .before .before .before .before .before .before .before .before .before .before .before .before .before .before .before .before .header-with .ensures)
+    ∙ way-at (held s) (a .p .now) (a .out .now) (sym (c .before .before .before .before .before .before .before .before .before .before .before .before .before .before .before .before .before .before .before .before .before .before .before .before .before .before .before .sound .ensures) ∙ not-false _ (c .before .before .before .before .before .before .before .before .before .before .before .before .before .before .before .before .before .before .before .before .before .before .before .before .before .before .if1 .left)) (not-false (lengthAllowed (length (a .p .now))) (c .before .before .before .before .before .before .before .before .before .before .before .before .before .before .before .before .before .before .before .before .before .before .before .before .before .if2 .left)) (sym (c .before .before .before .before .before .before .before .before .before .before .before .before .before .before .before .before .before .before .before .before .before .before .before .before .is-compressible .ensures) ∙ not-false _ (c .before .before .before .before .before .before .before .before .before .before .before .before .before .before .before .before .before .before .before .before .before .before .before .if3 .left)) (c .before .before .before .before .before .before .before .before .before .before .before .before .before .before .i .given .0 .0)
+    (sym (rw (c .before .before .before .before .before .before .before .before .before .before .before .before .before .before .before .before .before .before .before .before .before .header-with .ensures) at (c .before .before .before .before .before .before .before .before .before .before .before .before .before .before .before .before .find .ensures)) ∙ ap
+    placeIn (c .before .before .before .before .before .before .before .before .before .before .before .before .before .before .i .given .1)))
     (c .before .before .before .before .before .before .before .before .send-on .ensures)
 
 same-length-15 : tie.Need-same-length-15
@@ -227,22 +181,15 @@ same-length-18 c = search needs
 
 returns-5 : tie.Need-returns-5
 returns-5 c =
-    let s = (c .before .before .before .before .before .before .before .before .before .before .before .before .before .before
-    .before .before .before .before .before .before .before .before .before .before .before) in
+    let s = (c .before .before .before .before .before .before .before .before .before .before .before .before .before .before .before .before .before .before .before .before .before .before .before .before .before .before) in
     let a = s .args in
     gives-kept (handed s) (c .before .before .send-plain2 .result) _ (sendOf (held s) (a .p .now) (a .out .now))
     (c .before .before .send-plain2 .ensures (held s)
-    ∙ way-nowhere (held s) (a .p .now) (a .out .now) (sym (c .before .before .before .before .before .before .before .before
-    .before .before .before .before .before .before .before .before .sound .ensures) ∙ not-false _ (c .before .before .before
-    .before .before .before .before .before .before .before .before .before .before .before .before .if1 .left))
-    (not-false (lengthAllowed (length (a .p .now))) (c .before .before .before .before .before .before .before .before
-    .before .before .before .before .before .before .if2 .left)) (sym (c .before .before .before .before .before
-    .before .before .before .before .before .before .before .before .is-compressible .ensures) ∙ not-false _
-    (c .before .before .before .before .before .before .before .before .before .before .before .before
-    .if3 .left))
-    (sym (rw (c .before .before .before .before .before .before .before .before .before .before .before .read-header .ensures) at
-    (c .before .before .before .before .before .before .find .ensures)) ∙ ap placeIn (c .before .before .before .before
-    .enum-told .given .1)))
+    ∙ way-nowhere (held s) (a .p .now) (a .out .now) (sym (c .before .before .before .before .before .before .before .before .before .before .before .before .before .before .before .before .before .sound .ensures) ∙ not-false _ (c .before .before .before .before .before .before .before .before .before .before .before .before .before .before .before .before .if1 .left))
+    (not-false (lengthAllowed (length (a .p .now))) (c .before .before .before .before .before .before .before .before .before .before .before .before .before .before .before .if2 .left)) (sym (c .before .before .before .before .before .before .before .before .before .before .before .before .before .before .is-compressible .ensures) ∙ not-false _
+    (c .before .before .before .before .before .before .before .before .before .before .before .before .before .if3 .left))
+    (sym (rw (c .before .before .before .before .before .before .before .before .before .before .before .header-with .ensures) at
+    (c .before .before .before .before .before .before .find .ensures)) ∙ ap placeIn (c .before .before .before .before .enum-told .given .1)))
 
 pub send-spec : {M : Type 1} → statement M
 send-spec =
@@ -264,7 +211,8 @@ send-spec =
     same-length-9
     same-length-10
     returns-3
-    read-header-requires
+    read-rtp-list-requires
+    header-with-requires
     find-requires
     enum-known-i
     send-on-requires

@@ -16,16 +16,6 @@ use Rattle.compressor_table.specs.CallsLaws.{gives-kept}
 use Rattle.send.proofs.Sending.{past-link, sendWith-refused, sendWith-written, step-here, gives-sent}
 use Rattle.send.proofs.send_on.Statement.{statement}
 use Rattle.send.proofs.send_on.Tie as tie
-use Rattle.send.proofs.send_on.Reads as reads
-use Rattle.send.proofs.send_on.Lts as lts
-use Rattle.bytes.proofs.put.put_all.Reads as put-all-reads
-use Rattle.compressor_table.proofs.read.context_at.Reads as context-at-reads
-use Rattle.compressor_table.proofs.write.put_context.Reads as put-context-reads
-use Rattle.headers_read.proofs.read.header_size.Reads as header-size-reads
-use Rattle.outgoing.proofs.link.kind_number.Reads as kind-number-reads
-use Rattle.outgoing.proofs.link.link_size.Reads as link-size-reads
-use Rattle.outgoing.proofs.link.put_link.Reads as put-link-reads
-use Rattle.outgoing.proofs.step.step_on.Reads as step-on-reads
 
 abbrev handed : tie.Start → Lent
 handed s = lent (now (s .args .w)) (now (s .args .h)) (now (s .args .b))
@@ -33,26 +23,28 @@ handed s = lent (now (s .args .w)) (now (s .args .h)) (now (s .args .b))
 abbrev held : tie.Start → Table
 held s = tableOf (handed s)
 
-context-at-requires : tie.Need-context-at-requires
-context-at-requires c κs =
-    let z = fits-sizes (handed (c .before .before .before .before .before .before .before .before)) (c .before .before .before
-    .before .before .before .before .before .pre .0) in
-    (z .words, z .shorts, z .bytes, c .before .before .before .before .before .before .before .before .pre .1 .place)
+list-at-requires : tie.Need-list-at-requires
+list-at-requires c κs =
+    let s = c .before .before .before .before .before .before .before in
+    let z = fits-sizes (handed s) (s .pre .0) in (z .words, z .bytes, s .pre .1 .place)
+
+context-with-requires : tie.Need-context-with-requires
+context-with-requires c κs =
+    let s = c .before .before .before .before .before .before .before .before .before .before .before in
+    let z = fits-sizes (handed s) (s .pre .0) in
+    (z .words, z .shorts, z .bytes, s .pre .1 .place, c .before .before .before .list-at .ensures)
 
 slice-read-step-on : tie.Need-slice-read-step-on
 slice-read-step-on c = omega (
   arith,
-  fits-sizes (handed (c .before .before .before .before .before .before .before .before .before
-      .before)) (c .before .before .before .before .before .before .before .before .before .before .pre .0) .bytes,
+  fits-sizes (handed (c .before .before .before .before .before .before .before .before .before .before .before .before .before)) (c .before .before .before .before .before .before .before .before .before .before .before .before .before .pre .0) .bytes,
 )
 
 step-on-requires : tie.Need-step-on-requires
 step-on-requires c κs = omega (
   arith,
-  c .before .before .before .before .before .before .before .before .before .before .pre .1
-      .repeats,
-  tableOf-repeats (handed (c .before .before .before .before .before .before .before .before .before .before)) (c
-      .before .before .before .before .before .before .before .before .before .before .pre .0),
+  c .before .before .before .before .before .before .before .before .before .before .before .before .before .pre .1 .repeats,
+  tableOf-repeats (handed (c .before .before .before .before .before .before .before .before .before .before .before .before .before)) (c .before .before .before .before .before .before .before .before .before .before .before .before .before .pre .0),
 )
 
 header-size-requires : tie.Need-header-size-requires
@@ -61,16 +53,14 @@ header-size-requires c κs = search needs
 sub-tail : tie.Need-sub-tail
 sub-tail c = omega (
   arith,
-  c .before .before .before .before .before .before .before .before .before .before .before .before .pre
-      .1 .whole,
+  c .before .before .before .before .before .before .before .before .before .before .before .before .before .before .before .pre .1 .whole,
   c .header-size .ensures,
 )
 
 part-tail-start : tie.Need-part-tail-start
 part-tail-start c = omega (
   arith,
-  c .before .before .before .before .before .before .before .before .before .before .before
-      .before .pre .1 .whole,
+  c .before .before .before .before .before .before .before .before .before .before .before .before .before .before .before .pre .1 .whole,
   c .header-size .ensures,
 )
 
@@ -79,18 +69,16 @@ part-tail-end c = search needs
 
 link-size-requires : tie.Need-link-size-requires
 link-size-requires c κs =
-    let s = (c .before .before .before .before .before .before .before .before .before .before .before .before .before) in
+    let s = (c .before .before .before .before .before .before .before .before .before .before .before .before .before .before .before .before) in
     let a = s .args in
     let x = c .before .before .step-on in
-    (rw (step-here (handed s) (a .i) (a .x) (c .before .before .before .before .context-at .result) (stepped (x .result)) (s .pre
-    .0) (s .pre .1 .place)
-    (c .before .before .before .before .context-at .ensures) (x .ensures)) (s .pre .1 .writable))
+    (rw (step-here (handed s) (a .i) (a .x) (c .before .before .before .before .context-with .result) (stepped (x .result)) (s .pre .0) (s .pre .1 .place)
+    (c .before .before .before .before .context-with .ensures) (x .ensures)) (s .pre .1 .writable))
 
 add-size : tie.Need-add-size
 add-size c = omega (
   arith,
-  c .before .before .before .before .before .before .before .before .before .before .before .before
-      .before .before .pre .1 .most,
+  c .before .before .before .before .before .before .before .before .before .before .before .before .before .before .before .before .before .pre .1 .most,
   c .link-size .ensures .1,
 )
 
@@ -105,71 +93,59 @@ same-length-3 c = search needs
 
 returns : tie.Need-returns
 returns c =
-    let s = (c .before .before .before .before .before .before .before .before .before .before .before .before .before .before
-    .before) in
+    let s = (c .before .before .before .before .before .before .before .before .before .before .before .before .before .before .before .before .before .before) in
     let a = s .args in
     let x = c .before .before .before .before .step-on in
     let f = c .before .before .before .header-size in
     let l = c .before .link-size in
     gives-kept (handed s) _ (a .out .now) (sendWith (held s) (a .i) (a .p .now) (a .out .now) (a .x))
-    (sendWith-refused (held s) (a .i) (a .p .now) (a .out .now) (a .x) (stepped (x .result)) (rw (step-here (handed s) (a .i) (a
-    .x) (c .before .before .before .before .before .before .context-at .result) (stepped (x .result)) (s .pre .0) (s .pre .1
-    .place)
-    (c .before .before .before .before .before .before .context-at .ensures) (x .ensures)) (s .pre .1 .writable))
-    (l .result) (f .result) (l .ensures .0) (f .ensures) (step-here (handed s) (a .i) (a .x) (c .before .before .before .before
-    .before .before .context-at .result) (stepped (x .result)) (s .pre .0) (s .pre .1 .place)
-    (c .before .before .before .before .before .before .context-at .ensures) (x .ensures))
+    (sendWith-refused (held s) (a .i) (a .p .now) (a .out .now) (a .x) (stepped (x .result)) (rw (step-here (handed s) (a .i) (a .x) (c .before .before .before .before .before .before .context-with .result) (stepped (x .result)) (s .pre .0) (s .pre .1 .place)
+    (c .before .before .before .before .before .before .context-with .ensures) (x .ensures)) (s .pre .1 .writable))
+    (l .result) (f .result) (l .ensures .0) (f .ensures) (step-here (handed s) (a .i) (a .x) (c .before .before .before .before .before .before .context-with .result) (stepped (x .result)) (s .pre .0) (s .pre .1 .place)
+    (c .before .before .before .before .before .before .context-with .ensures) (x .ensures))
     (omega (arith, length-rest (a .p .now) (f .result), c .if1 .taken)))
 
 cast-put-link : tie.Need-cast-put-link
 cast-put-link c = omega (
   arith,
-  c .before .before .before .before .before .before .before .before .before .before .before .before
-      .before .before .before .before .pre .1 .place,
+  c .before .before .before .before .before .before .before .before .before .before .before .before .before .before .before .before .before .before .before .pre .1 .place,
 )
 
 cast-put-link-2 : tie.Need-cast-put-link-2
 cast-put-link-2 c = omega (
   arith,
-  c .before .before .before .before .before .before .before .before .before .before .before
-      .before .before .before .before .before .pre .1 .most,
+  c .before .before .before .before .before .before .before .before .before .before .before .before .before .before .before .before .before .before .before .pre .1 .most,
 )
 
 put-link-requires : tie.Need-put-link-requires
 put-link-requires c κs =
-    let s = (c .before .before .before .before .before .before .before .before .before .before .before .before .before .before
-    .before .before) in
+    let s = (c .before .before .before .before .before .before .before .before .before .before .before .before .before .before .before .before .before .before .before) in
     let a = s .args in
     let x = c .before .before .before .before .before .step-on in (
-      (rw (step-here (handed s) (a .i) (a .x) (c .before .before .before .before .before .before .before .context-at .result)
+      (rw (step-here (handed s) (a .i) (a .x) (c .before .before .before .before .before .before .before .context-with .result)
           (stepped (x .result)) (s .pre .0) (s .pre .1 .place)
-          (c .before .before .before .before .before .before .before .context-at .ensures) (x .ensures)) (s .pre .1 .writable)),
+          (c .before .before .before .before .before .before .before .context-with .ensures) (x .ensures)) (s .pre .1 .writable)),
       omega (arith, c .before .if1 .left, c .before .before .link-size .ensures .0),
     )
 
 put-all-requires : tie.Need-put-all-requires
 put-all-requires c κs =
-    let s = (c .before .before .before .before .before .before .before .before .before .before .before .before .before .before
-    .before .before .before .before .before .before) in
+    let s = (c .before .before .before .before .before .before .before .before .before .before .before .before .before .before .before .before .before .before .before .before .before .before .before) in
     let a = s .args in
     let x = c .before .before .before .before .before .before .before .before .before .step-on in
     let f = c .before .before .before .before .before .before .before .before .header-size in
     let l = c .before .before .before .before .before .before .link-size in
-    let w = past-link (held s) (a .i) (a .p .now) (a .out .now) (a .x) (stepped (x .result)) (rw (step-here (handed s) (a .i) (a
-    .x) (c .before .before .before .before .before .before .before .before .before .before .before .context-at .result)
+    let w = past-link (held s) (a .i) (a .p .now) (a .out .now) (a .x) (stepped (x .result)) (rw (step-here (handed s) (a .i) (a .x) (c .before .before .before .before .before .before .before .before .before .before .before .context-with .result)
     (stepped (x .result)) (s .pre .0) (s .pre .1 .place)
-    (c .before .before .before .before .before .before .before .before .before .before .before .context-at .ensures) (x .ensures))
+    (c .before .before .before .before .before .before .before .before .before .before .before .context-with .ensures) (x .ensures))
     (s .pre .1 .writable))
     (l .result) (f .result) (l .ensures .0) (f .ensures) (c .before .before .before .put-link .ensures) in
     omega (arith, length-rest (a .p .now) (f .result), c .before .before .before .before .before .if1 .left, w)
 
 put-context-requires : tie.Need-put-context-requires
 put-context-requires c κs = (
-  c .before .before .before .before .before .before .before .before .before .before .before .before
-      .before .before .before .before .before .before .before .before .before .before .before .before .before .before .before .pre
-      .0,
-  c .before .before .before .before .before .before .before .before .before .before .before .before .before .before
-      .before .before .before .before .before .before .before .before .before .before .before .before .before .pre .1 .place,
+  c .before .before .before .before .before .before .before .before .before .before .before .before .before .before .before .before .before .before .before .before .before .before .before .before .before .before .before .before .before .before .pre .0,
+  c .before .before .before .before .before .before .before .before .before .before .before .before .before .before .before .before .before .before .before .before .before .before .before .before .before .before .before .before .before .before .pre .1 .place,
 )
 
 kind-number-requires : tie.Need-kind-number-requires
@@ -189,49 +165,31 @@ same-length-7 c = search needs
 
 returns-2 : tie.Need-returns-2
 returns-2 c =
-    let s = (c .before .before .before .before .before .before .before .before .before .before .before .before .before .before
-    .before .before .before .before .before .before .before .before .before .before .before .before .before .before .before
-    .before .before .before .before .before .before) in
+    let s = (c .before .before .before .before .before .before .before .before .before .before .before .before .before .before .before .before .before .before .before .before .before .before .before .before .before .before .before .before .before .before .before .before .before .before .before .before .before .before) in
     let a = s .args in
-    let x = c .before .before .before .before .before .before .before .before .before .before .before .before .before .before
-    .before .before .before .before .before .before .before .before .before .before .step-on in
-    let f = c .before .before .before .before .before .before .before .before .before .before .before .before .before .before
-    .before .before .before .before .before .before .before .before .before .header-size in
-    let l = c .before .before .before .before .before .before .before .before .before .before .before .before .before .before
-    .before .before .before .before .before .before .before .link-size in
-    gives-sent (handed s) _ (a .i) (c .kind-number .result) (c .before .before .before .before .before .before .before .before
-    .before .before .before .before .before .before .put-all .result) (stepped (x .result) .context) _
-    (sendWith (held s) (a .i) (a .p .now) (a .out .now) (a .x)) (c .before .before .before .before .before .before .before
-    .put-context .ensures)
-    (sendWith-written (held s) (a .i) (a .p .now) (a .out .now) (a .x) (stepped (x .result)) (rw (step-here (handed s) (a .i) (a
-    .x) (c .before .before .before .before .before .before .before .before .before .before .before .before .before .before
-    .before .before .before .before .before .before .before .before .before .before .before .before .context-at .result)
+    let x = c .before .before .before .before .before .before .before .before .before .before .before .before .before .before .before .before .before .before .before .before .before .before .before .before .step-on in
+    let f = c .before .before .before .before .before .before .before .before .before .before .before .before .before .before .before .before .before .before .before .before .before .before .before .header-size in
+    let l = c .before .before .before .before .before .before .before .before .before .before .before .before .before .before .before .before .before .before .before .before .before .link-size in
+    gives-sent (handed s) _ (a .i) (c .kind-number .result) (c .before .before .before .before .before .before .before .before .before .before .before .before .before .before .put-all .result) (stepped (x .result) .context) _
+    (sendWith (held s) (a .i) (a .p .now) (a .out .now) (a .x)) (c .before .before .before .before .before .before .before .put-context .ensures)
+    (sendWith-written (held s) (a .i) (a .p .now) (a .out .now) (a .x) (stepped (x .result)) (rw (step-here (handed s) (a .i) (a .x) (c .before .before .before .before .before .before .before .before .before .before .before .before .before .before .before .before .before .before .before .before .before .before .before .before .before .before .context-with .result)
     (stepped (x .result)) (s .pre .0) (s .pre .1 .place)
-    (c .before .before .before .before .before .before .before .before .before .before .before .before .before .before .before
-    .before .before .before .before .before .before .before .before .before .before .before .context-at .ensures) (x
-    .ensures)) (s .pre .1 .writable))
-    (l .result) (f .result) (l .ensures .0) (f .ensures) (step-here (handed s) (a .i) (a .x) (c .before .before .before .before
-    .before .before .before .before .before .before .before .before .before .before .before .before .before .before .before
-    .before .before .before .before .before .before .before .context-at .result) (stepped (x .result)) (s .pre .0) (s .pre
-    .1 .place)
-    (c .before .before .before .before .before .before .before .before .before .before .before .before .before .before .before
-    .before .before .before .before .before .before .before .before .before .before .before .context-at .ensures) (x
-    .ensures)) (c .kind-number .result) (c .kind-number .ensures)
+    (c .before .before .before .before .before .before .before .before .before .before .before .before .before .before .before .before .before .before .before .before .before .before .before .before .before .before .context-with .ensures) (x .ensures)) (s .pre .1 .writable))
+    (l .result) (f .result) (l .ensures .0) (f .ensures) (step-here (handed s) (a .i) (a .x) (c .before .before .before .before .before .before .before .before .before .before .before .before .before .before .before .before .before .before .before .before .before .before .before .before .before .before .context-with .result) (stepped (x .result)) (s .pre .0) (s .pre .1 .place)
+    (c .before .before .before .before .before .before .before .before .before .before .before .before .before .before .before .before .before .before .before .before .before .before .before .before .before .before .context-with .ensures) (x .ensures)) (c .kind-number .result) (c .kind-number .ensures)
     (omega (
       arith,
       length-rest (a .p .now) (f .result),
-      c .before .before .before .before .before .before .before .before .before
-          .before .before .before .before .before .before .before .before .before .before .before .if1 .left,
+      c .before .before .before .before .before .before .before .before .before .before .before .before .before .before .before .before .before .before .before .before .if1 .left,
     ))
-    (c .before .before .before .before .before .before .before .before .before .before .before .before .before .before .before
-    .before .before .before .put-link .ensures) (c .before .before .before .before .before .before .before .before .before
-    .before .before .before .before .before .put-all .ensures))
+    (c .before .before .before .before .before .before .before .before .before .before .before .before .before .before .before .before .before .before .put-link .ensures) (c .before .before .before .before .before .before .before .before .before .before .before .before .before .before .put-all .ensures))
 
 pub send-on-spec : {M : Type 1} → statement M
 send-on-spec =
     tie.close
     (tie.spec
-    context-at-requires
+    list-at-requires
+    context-with-requires
     slice-read-step-on
     step-on-requires
     header-size-requires

@@ -20,7 +20,7 @@ word-at-requires c κs = search needs
 
 returns : tie.Need-returns
 unfolding headerOf
-returns c = 
+returns c =
     let b2 = c .before .before in
     let b3 = b2 .before in
     let b4 = b3 .before in

@@ -6,8 +6,8 @@ use Rattle.headers_read.proofs.read.read_rtp.Tie as tie
 read-fields-requires : tie.Need-read-fields-requires
 read-fields-requires c κs = search needs
 
-list-at-requires : tie.Need-list-at-requires
-list-at-requires c κs = search needs
+read-rtp-list-requires : tie.Need-read-rtp-list-requires
+read-rtp-list-requires c κs = search needs
 
 add-long-at : tie.Need-add-long-at
 add-long-at c = search needs
@@ -23,7 +23,7 @@ unfolding rtpAt
 returns c = rw (
   c .read-marker .ensures,
   c .before .long-at .ensures,
-  c .before .before .list-at .ensures,
+  c .before .before .read-rtp-list .ensures,
   c .before .before .before .read-fields .ensures,
 )
 
@@ -32,7 +32,7 @@ read-rtp-spec =
     tie.close
     (tie.spec
     read-fields-requires
-    list-at-requires
+    read-rtp-list-requires
     add-long-at
     long-at-requires
     read-marker-requires
