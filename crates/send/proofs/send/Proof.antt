@@ -98,7 +98,7 @@ returns-3 c =
     gives-kept (handed s) (c .before .before .send-plain .result) _ (sendOf (held s) (a .p .now) (a .out .now))
     (c .before .before .send-plain .ensures (held s)
     ∙ way-plain (held s) (a .p .now) (a .out .now) (sym (b8 .sound .ensures) ∙ not-false _ (b7 .if1 .left)) (not-false
-        (lengthAllowed
+    (lengthAllowed
     (length (a .p .now))) (b6 .if2 .left))
     (sym (b5 .is-compressible .ensures) ∙ not-true _ (b4 .if3 .taken)))
 
@@ -154,7 +154,7 @@ send-on-requires c κs =
             b23 .shared-slice-known .given j,
           )))
           (way-on (held s) (a .p .now) (a .out .now) (sym (b18 .sound .ensures) ∙ not-false _ (b17 .if1 .left)) (not-false
-              (lengthAllowed (length (a .p .now))) (b16 .if2 .left))
+          (lengthAllowed (length (a .p .now))) (b16 .if2 .left))
           (sym (b15 .is-compressible .ensures) ∙ not-false _ (b14 .if3 .left))
           (b5 .i .given .0 .0)
           (sym (rw (b12 .header-with .ensures) at (b7 .find .ensures)) ∙ ap placeIn (b5 .i .given .1)))),
@@ -198,8 +198,8 @@ returns-4 c =
     (ap (λ (x : Header). sendWith (held s) (b14 .i .given .0 .0) (a .p .now) (a .out .now) x)
     (b21 .header-with .ensures)
     ∙ way-at (held s) (a .p .now) (a .out .now) (sym (b27 .sound .ensures) ∙ not-false _ (b26 .if1 .left)) (not-false
-        (lengthAllowed (length (a .p .now))) (b25 .if2 .left)) (sym (b24 .is-compressible .ensures) ∙ not-false _ (b23 .if3 .left))
-        (b14 .i .given .0 .0)
+    (lengthAllowed (length (a .p .now))) (b25 .if2 .left)) (sym (b24 .is-compressible .ensures) ∙ not-false _ (b23 .if3 .left))
+    (b14 .i .given .0 .0)
     (sym (rw (b21 .header-with .ensures) at (b16 .find .ensures)) ∙ ap
     placeIn (b14 .i .given .1)))
     (b8 .send-on .ensures)

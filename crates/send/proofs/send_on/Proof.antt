@@ -40,18 +40,18 @@ slice-read-step-on : tie.Need-slice-read-step-on
 slice-read-step-on c =
     let b13 = c .before .before .before .before .before .before .before .before .before .before .before .before .before in
     omega (
-  arith,
-  fits-sizes (handed b13) (b13 .pre .0) .bytes,
-)
+      arith,
+      fits-sizes (handed b13) (b13 .pre .0) .bytes,
+    )
 
 step-on-requires : tie.Need-step-on-requires
 step-on-requires c κs =
     let b13 = c .before .before .before .before .before .before .before .before .before .before .before .before .before in
     omega (
-  arith,
-  b13 .pre .1 .repeats,
-  tableOf-repeats (handed b13) (b13 .pre .0),
-)
+      arith,
+      b13 .pre .1 .repeats,
+      tableOf-repeats (handed b13) (b13 .pre .0),
+    )
 
 header-size-requires : tie.Need-header-size-requires
 header-size-requires c κs = search needs
@@ -59,22 +59,22 @@ header-size-requires c κs = search needs
 sub-tail : tie.Need-sub-tail
 sub-tail c =
     let b15 = c .before .before .before .before .before .before .before .before .before .before .before .before .before .before
-        .before in
+    .before in
     omega (
-  arith,
-  b15 .pre .1 .whole,
-  c .header-size .ensures,
-)
+      arith,
+      b15 .pre .1 .whole,
+      c .header-size .ensures,
+    )
 
 part-tail-start : tie.Need-part-tail-start
 part-tail-start c =
     let b15 = c .before .before .before .before .before .before .before .before .before .before .before .before .before .before
-        .before in
+    .before in
     omega (
-  arith,
-  b15 .pre .1 .whole,
-  c .header-size .ensures,
-)
+      arith,
+      b15 .pre .1 .whole,
+      c .header-size .ensures,
+    )
 
 part-tail-end : tie.Need-part-tail-end
 part-tail-end c = search needs
@@ -92,12 +92,12 @@ link-size-requires c κs =
 add-size : tie.Need-add-size
 add-size c =
     let b17 = c .before .before .before .before .before .before .before .before .before .before .before .before .before .before
-        .before .before .before in
+    .before .before .before in
     omega (
-  arith,
-  b17 .pre .1 .most,
-  c .link-size .ensures .1,
-)
+      arith,
+      b17 .pre .1 .most,
+      c .link-size .ensures .1,
+    )
 
 same-length : tie.Need-same-length
 same-length c = search needs
@@ -121,30 +121,30 @@ returns c =
     let l = c .before .link-size in
     gives-kept (handed s) _ (a .out .now) (sendWith (held s) (a .i) (a .p .now) (a .out .now) (a .x))
     (sendWith-refused (held s) (a .i) (a .p .now) (a .out .now) (a .x) (stepped (x .result)) (rw (step-here (handed s) (a .i) (a
-        .x) (b6 .context-with .result) (stepped (x .result)) (s .pre .0) (s .pre .1 .place)
+    .x) (b6 .context-with .result) (stepped (x .result)) (s .pre .0) (s .pre .1 .place)
     (b6 .context-with .ensures) (x .ensures)) (s .pre .1 .writable))
     (l .result) (f .result) (l .ensures .0) (f .ensures) (step-here (handed s) (a .i) (a .x) (b6 .context-with .result) (stepped (x
-        .result)) (s .pre .0) (s .pre .1 .place)
+    .result)) (s .pre .0) (s .pre .1 .place)
     (b6 .context-with .ensures) (x .ensures))
     (omega (arith, length-rest (a .p .now) (f .result), c .if1 .taken)))
 
 cast-put-link : tie.Need-cast-put-link
 cast-put-link c =
     let b19 = c .before .before .before .before .before .before .before .before .before .before .before .before .before .before
-        .before .before .before .before .before in
+    .before .before .before .before .before in
     omega (
-  arith,
-  b19 .pre .1 .place,
-)
+      arith,
+      b19 .pre .1 .place,
+    )
 
 cast-put-link-2 : tie.Need-cast-put-link-2
 cast-put-link-2 c =
     let b19 = c .before .before .before .before .before .before .before .before .before .before .before .before .before .before
-        .before .before .before .before .before in
+    .before .before .before .before .before in
     omega (
-  arith,
-  b19 .pre .1 .most,
-)
+      arith,
+      b19 .pre .1 .most,
+    )
 
 put-link-requires : tie.Need-put-link-requires
 put-link-requires c κs =
@@ -175,7 +175,7 @@ put-all-requires c κs =
     let f = b8 .header-size in
     let l = b6 .link-size in
     let w = past-link (held s) (a .i) (a .p .now) (a .out .now) (a .x) (stepped (x .result)) (rw (step-here (handed s) (a .i) (a
-        .x) (b11 .context-with .result)
+    .x) (b11 .context-with .result)
     (stepped (x .result)) (s .pre .0) (s .pre .1 .place)
     (b11 .context-with .ensures) (x .ensures))
     (s .pre .1 .writable))
@@ -185,12 +185,11 @@ put-all-requires c κs =
 put-context-requires : tie.Need-put-context-requires
 put-context-requires c κs =
     let b30 = c .before .before .before .before .before .before .before .before .before .before .before .before .before .before
-        .before .before .before .before .before .before .before .before .before .before .before .before .before .before .before
-        .before in
-    (
-  b30 .pre .0,
-  b30 .pre .1 .place,
-)
+    .before .before .before .before .before .before .before .before .before .before .before .before .before .before .before
+    .before in (
+      b30 .pre .0,
+      b30 .pre .1 .place,
+    )
 
 kind-number-requires : tie.Need-kind-number-requires
 kind-number-requires c κs = search needs
@@ -226,11 +225,11 @@ returns-2 c =
     gives-sent (handed s) _ (a .i) (c .kind-number .result) (b14 .put-all .result) (stepped (x .result) .context) _
     (sendWith (held s) (a .i) (a .p .now) (a .out .now) (a .x)) (b7 .put-context .ensures)
     (sendWith-written (held s) (a .i) (a .p .now) (a .out .now) (a .x) (stepped (x .result)) (rw (step-here (handed s) (a .i) (a
-        .x) (b26 .context-with .result)
+    .x) (b26 .context-with .result)
     (stepped (x .result)) (s .pre .0) (s .pre .1 .place)
     (b26 .context-with .ensures) (x .ensures)) (s .pre .1 .writable))
     (l .result) (f .result) (l .ensures .0) (f .ensures) (step-here (handed s) (a .i) (a .x) (b26 .context-with .result) (stepped
-        (x .result)) (s .pre .0) (s .pre .1 .place)
+    (x .result)) (s .pre .0) (s .pre .1 .place)
     (b26 .context-with .ensures) (x .ensures)) (c .kind-number .result) (c .kind-number .ensures)
     (omega (
       arith,
