@@ -1,106 +1,44 @@
 //! The peer beside the oracle: scripts of the oracle's generators call for call, and tables in which one field was changed.
 
+#[path = "support/checks.rs"]
+mod checks;
 #[path = "../../second/src/packets.rs"]
 mod packets;
+#[path = "support/script.rs"]
+mod script;
+#[path = "support/second.rs"]
+mod second;
 #[path = "support/side_by_side.rs"]
 mod side_by_side;
 #[path = "support/tables.rs"]
 mod tables;
 
+use checks::leave;
 use oracle::flows::Flow;
 use oracle::mutant::Mutant;
-use oracle::planned::Planner;
 use oracle::prng::Prng;
 use oracle::script::{
-    compressor_table_field, decompressor_table_field, Field, COMPRESSOR_FIELDS, DECOMPRESSOR_FIELDS,
+    compressor_table_field, decompressor_table_field, COMPRESSOR_FIELDS, DECOMPRESSOR_FIELDS,
 };
-use oracle::{generate, generate_checksums, generate_endpoint, generate_saves};
 use peer::compressor::{BLANK, EARLIER};
 use peer::decompressor::{CARRIED, FILLED, MARKER};
 use peer::kept::{EXTENSION, PADDING, STATUS};
 use peer::PLACES;
-use side_by_side::{compare, Outcome, Seen, KINDS};
+use script::script;
+use second::Second;
+use side_by_side::compare;
 use tables::{
     lay_out_compressor, lay_out_decompressor, of_every_place, put_compressor, put_decompressor,
     take_compressor, take_decompressor,
 };
 
-// Scripts
-
-const SCRIPTS: [(&str, usize); 5] = [
-    ("both tables", 150_000),
-    ("sender", 60_000),
-    ("box", 80_000),
-    ("saves", 20_000),
-    ("checksums", 60_000),
-];
-
-/// Lines without end.
-fn script(name: &str, seed: u64) -> Box<dyn Iterator<Item = String>> {
-    fn lines(mut planner: impl Planner + 'static) -> Box<dyn Iterator<Item = String>> {
-        Box::new(std::iter::repeat_with(move || planner.next_line()))
-    }
-    match name {
-        "both tables" => lines(generate::Generator::new(seed, false)),
-        "sender" => lines(generate::Generator::new(seed, true)),
-        "box" => lines(generate_endpoint::Generator::new(seed)),
-        "saves" => lines(generate_saves::Generator::new(seed)),
-        _ => lines(generate_checksums::Generator::new(seed)),
-    }
-}
-
-fn leave(_: usize, _: &mut Outcome) {}
-
 #[test]
 fn scripts_call_for_call() {
-    let mut all = Seen::default();
-    for (name, count) in SCRIPTS {
-        let mut seen = Seen::default();
-        for seed in [2508, 3545] {
-            seen.add(&compare(
-                script(name, seed).take(count / 2),
-                Mutant::None,
-                usize::MAX,
-                leave,
-            ));
-        }
-        println!(
-            "{name}: {} calls in {count} lines, {} differences",
-            seen.calls, seen.differences
-        );
-        all.add(&seen);
-    }
-    println!("all: {} calls, {} differences", all.calls, all.differences);
-    println!(
-        "accepted sends: plain {}, FH {}, CU {}, CR {}",
-        all.types[0], all.types[1], all.types[2], all.types[3]
-    );
-    for (kind, numbers) in KINDS.iter().zip(&all.numbers) {
-        println!("{kind:?} by number, from 0: {numbers:?}");
-    }
-    assert_eq!(all.differences, 0, "{}", all.first.unwrap_or_default());
-    assert!(all.calls >= 200_000);
-    // A comparison of calls that never come would show nothing.
-    assert!(all.types.iter().all(|&count| count >= 1000));
-    let opening: &[usize] = &[0, 1];
-    let receive = &[0, 1, 2, 3, 4, 5, 6, 7, 8, 9, 10, 11, 12];
-    let reached = [
-        opening,
-        opening,
-        &[0, 1, 2, 11],
-        receive,
-        &[0, 1, 4, 5, 6],
-        &[0, 1, 11],
-    ];
-    for ((kind, numbers), reached) in KINDS.iter().zip(all.numbers).zip(reached) {
-        for (number, count) in numbers.into_iter().enumerate() {
-            assert_eq!(
-                count >= 25,
-                reached.contains(&number),
-                "{kind:?} answered {number} {count} times"
-            );
-        }
-    }
+    checks::scripts_call_for_call(without_fault);
+}
+
+fn without_fault() -> Second {
+    Second::with(Mutant::None)
 }
 
 // That the comparison can fail
@@ -122,9 +60,10 @@ fn every_fault_is_noticed() {
     let mut noticed = 0;
     for mutant in faults() {
         let scripts = ["both tables", "checksums", "sender"];
-        let first = scripts
-            .iter()
-            .find_map(|name| compare(script(name, 7).take(60_000), mutant, 1, leave).first);
+        let first = scripts.iter().find_map(|name| {
+            let lines = script(name, 7).take(60_000);
+            compare(&mut Second::with(mutant), lines, 1, leave).first
+        });
         let first = first.unwrap_or_else(|| panic!("{mutant:?} is not noticed"));
         println!("{mutant:?}: {first:.100}");
         noticed += 1;
@@ -133,75 +72,9 @@ fn every_fault_is_noticed() {
     assert_eq!(noticed, 53);
 }
 
-/// Tampers with one call, and tells how many differences were seen.
-fn differences_after(tamper: impl Fn(&mut Outcome) -> bool) -> usize {
-    let mut tampered = false;
-    let once = |call: usize, outcome: &mut Outcome| {
-        if call >= 100 && !tampered {
-            tampered = tamper(outcome);
-        }
-    };
-    let seen = compare(
-        script("both tables", 9).take(400),
-        Mutant::None,
-        usize::MAX,
-        once,
-    );
-    assert!(tampered && seen.calls > 200);
-    seen.differences
-}
-
 #[test]
 fn one_bit_is_noticed() {
-    let flip = |byte: Option<&mut u8>, bit: usize| byte.map(|byte| *byte ^= 1 << bit).is_some();
-    for bit in 0..8 {
-        let number = |outcome: &mut Outcome| flip(Some(&mut outcome.number), bit);
-        let link_type = |outcome: &mut Outcome| {
-            outcome.link_type ^= 1 << bit;
-            true
-        };
-        let length = |outcome: &mut Outcome| {
-            outcome.length ^= 1 << bit;
-            true
-        };
-        let first = |outcome: &mut Outcome| flip(outcome.output.first_mut(), bit);
-        let last = |outcome: &mut Outcome| flip(outcome.output.last_mut(), bit);
-        assert_eq!(differences_after(number), 1);
-        assert_eq!(differences_after(link_type), 1);
-        assert_eq!(differences_after(length), 1);
-        assert_eq!(differences_after(first), 1);
-        assert_eq!(differences_after(last), 1);
-    }
-    // Every field at some place.
-    for (name, place) in of_every_place(&COMPRESSOR_FIELDS).step_by(61) {
-        let field = |outcome: &mut Outcome| {
-            let mut table = take_compressor(&outcome.compressor);
-            flip_some_bit(compressor_table_field(&mut table, name, place));
-            outcome.compressor = lay_out_compressor(&table);
-            true
-        };
-        assert_eq!(differences_after(field), 1, "{name} {place}");
-    }
-    for (name, place) in of_every_place(&DECOMPRESSOR_FIELDS).step_by(61) {
-        let field = |outcome: &mut Outcome| {
-            let mut table = take_decompressor(&outcome.decompressor);
-            flip_some_bit(decompressor_table_field(&mut table, name, place));
-            outcome.decompressor = lay_out_decompressor(&table);
-            true
-        };
-        assert_eq!(differences_after(field), 1, "{name} {place}");
-    }
-}
-
-/// Flips the lowest bit, or leaves 0 of a status that has no such neighbour.
-fn flip_some_bit(field: Option<Field>) {
-    let field = field.expect("a field");
-    let flipped = field.get() ^ 1;
-    let flipped = match field {
-        Field::Status(_) => flipped % 3,
-        _ => flipped,
-    };
-    assert!(field.set(flipped));
+    checks::one_bit_is_noticed(without_fault);
 }
 
 /// Tables are compared as they are laid out for the peer, so no field may get lost on the way.
