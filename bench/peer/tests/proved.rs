@@ -1,13 +1,18 @@
-//! The peer beside the proved program, which is linked from libiarwennol.a: scripts of the oracle's generators call for call.
+//! The peer beside the proved program, which is linked from libiarwennol.a: scripts of the oracle's generators call for call, and tables in which
+//! one field was changed.
 
 #[path = "support/checks.rs"]
 mod checks;
+#[path = "../../second/src/packets.rs"]
+mod packets;
 #[path = "support/proved.rs"]
 mod proved;
 #[path = "support/script.rs"]
 mod script;
 #[path = "support/side_by_side.rs"]
 mod side_by_side;
+#[path = "support/soundness.rs"]
+mod soundness;
 #[path = "support/tables.rs"]
 mod tables;
 
@@ -17,11 +22,24 @@ use peer::PLACES;
 use proved::{lend_compressor, lend_decompressor, Proved};
 use script::{script, Call};
 use side_by_side::{changed, compare, Other, Pair, PeerPair, Told};
-use tables::of_every_place;
+use tables::{lay_out_compressor, lay_out_decompressor, of_every_place};
 
 #[test]
 fn scripts_call_for_call() {
     checks::scripts_call_for_call(Proved::default);
+}
+
+#[test]
+fn one_field_changed() {
+    soundness::one_field_changed(|tables| {
+        let lent = Pair {
+            compressor: lend_compressor(&lay_out_compressor(&tables.compressor)),
+            decompressor: lend_decompressor(&lay_out_decompressor(&tables.decompressor)),
+        };
+        Proved {
+            tables: [lent, Pair::default()],
+        }
+    });
 }
 
 // That the comparison can fail

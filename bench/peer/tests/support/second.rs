@@ -9,7 +9,7 @@ use oracle::{compressor, decompressor};
 
 pub struct Second {
     mutant: Mutant,
-    runner: Runner,
+    pub runner: Runner,
 }
 
 impl Second {
