@@ -1,5 +1,5 @@
-//! The peer beside the proved program, which is linked from libiarwennol.a: scripts of the oracle's generators call for call, and tables in which
-//! one field was changed.
+//! The peer beside the proved program, which is linked from libiarwennol.a: scripts of the oracle's generators call for call, and
+//! tables in which one field was changed.
 
 #[path = "support/checks.rs"]
 mod checks;
