@@ -15,13 +15,14 @@ use Rattle.context.specs.Sound.{isZero, zeros, soundList, soundLink, soundDue, 
 use Rattle.context.specs.Sound.{soundCompressorBy, soundCompressor}
 use Rattle.context.specs.declared.compressor.Usage.the-variants.{Empty, Live}
 use Rattle.context.specs.declared.compressor.CompressorContext.{CompressorContext}
-use Rattle.compressor.specs.Table.{emptyBy, isEmpty, soundOf, unopened}
+use Rattle.compressor.specs.Table.{isEmpty, soundOf, unopened}
 use Rattle.compressor.specs.TableLaws.{unsound-unopened}
 use Rattle.compressor.specs.declared.table.Table.{Table}
 use Rattle.planes.specs.Planes.{Lent, cell, row, places, every}
-use Rattle.planes.specs.EveryLaws.{every-and, every-same, every-swap, every-at, every-made, all-places, tail-places}
+use Rattle.planes.specs.EveryLaws.{every-and, every-same, every-swap, every-at, every-made, all-places, tail-places, every-given, passed}
 use Rattle.planes.specs.ChainLaws.{Chain, none, leaf, both, eval, implied, same, absorbed, absorbed′, under, one-zero}
 use Rattle.compressor_table.specs.Layout.{usageOf, contextOf, contextIn, planeTable, sized, typed, fits, tableOf}
+use Rattle.compressor_table.specs.LayoutLaws.{empty-status}
 use Rattle.compressor_walk.specs.Walk.{headTest, dueTest, shortTest, wordTest, pastAt, listFree, unusedAt}
 use Rattle.compressor_walk.specs.Walk.{usedAt, evenAt, codedAt}
 
@@ -332,13 +333,6 @@ walk H D S W T C P m q h =
     ∙ every-same (λ (i : ℕ). four i && Q i) (λ (i : ℕ). T i && C i) m h
     ∙ every-and T C m
 
-pub empty-status : (s : ℕ) → eqb s 0 ≡ emptyBy (usageOf s)
-empty-status s = by (eqb s 0)
-  where
-    by : (z : Bool) → z ≡ emptyBy (cond z Empty Live)
-    by true = refl
-    by false = refl
-
 -- no word in any list
 pub free-past : (w b : List ℕ) → every (listFree w) 960 ≡ true → true ≡ every (λ (k : ℕ). every (pastAt w b k) 64) 15
 free-past w b e =
@@ -350,13 +344,6 @@ free-past w b e =
         let z : eqb (cell w (6 + k) i) 0 ≡ true =
         ap (λ (y : ℕ). eqb (getD w y 0) 0) (sym x) ∙ every-at (listFree w) 960 (64 * k + i) (omega arith) e in
         rw z (or-true (ltb k (cell b 8 i)))
-
--- tests that agree where a third is passed, at places that all pass it
-every-given : (u f g : ℕ → Bool) (n : ℕ) → every u n ≡ true → ((i : ℕ) → u i ≡ true → f i ≡ g i) → every f n ≡ every g n
-every-given u f g n e h = every-same f g n (λ i a. h i (every-at u n i a e))
-
-passed : (u z : Bool) → u ≡ true → (u || z) ≡ true
-passed u z e = rw e
 
 -- every place in use: of the wide numbers only the ranges are left
 module _ (w h b : List ℕ) where

@@ -9,6 +9,7 @@ ghost use Rattle.compressor_walk.specs.Walk.{headTest, dueTest, shortTes
 ghost use Rattle.compressor_walk.specs.Walk.{usedAt, evenAt, codedAt};
 use codes::code::has_code32;
 use compressor_table::layout::Layout;
+use planes::numbers::place_numbers;
 use settings::Settings;
 
 // What came from a header, at each place.
@@ -226,14 +227,15 @@ fn lists_sound(w: &[u32], b: &[u8]) -> bool
 }
 
 // Places from k on are not in use.
-fn unused_from(b: &[u8], k: usize) -> bool
-    requires { ⌜ (length (now b) ≡ 1282) × (k ≤ 64) ⌝ }
+fn unused_from(b: &[u8], k: u8) -> bool
+    requires { ⌜ length (now b) ≡ 1282 ⌝ }
     ensures { λ r. ⌜ r ≡ every (unusedAt (now (b .entry)) k) 64 ⌝ }
 {
+    let numbers = place_numbers();
     let mut ok = true;
-    let mut i = k;
+    let mut i = 0;
     while i < Settings::PLACES {
-        ok = ok & (b[Layout::STATUS + i] == 0);
+        ok = ok & ((numbers[i] < k) | (b[Layout::STATUS + i] == 0));
         i += 1;
     }
     ok
@@ -260,6 +262,6 @@ pub fn sound(w: &[u32], h: &[u16], b: &[u8]) -> bool
     let dues = dues_sound(settings.repeats, b);
     let wide = wide_sound(w, h, b);
     let lists = lists_sound(w, b);
-    let unused = unused_from(b, settings.contexts as usize);
+    let unused = unused_from(b, settings.contexts);
     heads & dues & wide & lists & unused
 }

@@ -19,7 +19,7 @@ use Rattle.decompressor.specs.Table.{emptyBy, isEmpty, soundOf, unopened}
 use Rattle.decompressor.specs.TableLaws.{unsound-unopened}
 use Rattle.decompressor.specs.declared.table.Table.{Table}
 use Rattle.planes.specs.Planes.{Lent, cell, row, places, every}
-use Rattle.planes.specs.EveryLaws.{every-and, every-same, every-swap, every-at, every-made, every-true, all-places, tail-places}
+use Rattle.planes.specs.EveryLaws.{every-and, every-same, every-swap, every-at, every-made, every-true, all-places, tail-places, every-given, passed}
 use Rattle.planes.specs.ChainLaws.{Chain, none, leaf, both, eval, implied, same, absorbed, absorbed′, under, one-zero}
 use Rattle.decompressor_table.specs.Layout.{statusOf, flowOf, ipOf, rtpOf, listOf, deltasOf, linkOf, contextOf}
 use Rattle.decompressor_table.specs.Layout.{contextIn, planeTable, sized, typed, fits, tableOf}
@@ -326,13 +326,6 @@ free-past w b e =
         let z : eqb (cell w (5 + k) i) 0 ≡ true =
         ap (λ (y : ℕ). eqb (getD w y 0) 0) (sym x) ∙ every-at (listFree w) 960 (64 * k + i) (omega arith) e in
         rw z (or-true (ltb k (cell b 10 i)))
-
--- tests that agree where a third is passed, at places that all pass it
-every-given : (u f g : ℕ → Bool) (n : ℕ) → every u n ≡ true → ((i : ℕ) → u i ≡ true → f i ≡ g i) → every f n ≡ every g n
-every-given u f g n e h = every-same f g n (λ i a. h i (every-at u n i a e))
-
-passed : (u z : Bool) → u ≡ true → (u || z) ≡ true
-passed u z e = rw e
 
 -- every place filled: of the wide numbers only the deltas' range is left
 module _ (w h b : List ℕ) where

@@ -9,6 +9,7 @@ ghost use Rattle.decompressor_walk.specs.Walk.{byteTest, shortTest, word
 ghost use Rattle.decompressor_walk.specs.Walk.{filledAt, codedAt};
 use codes::code::has_code32;
 use decompressor_table::layout::Layout;
+use planes::numbers::place_numbers;
 use settings::Settings;
 
 // An empty context was never filled, a live one was; one that was never filled holds nothing but its status.
@@ -179,14 +180,15 @@ fn lists_sound(w: &[u32], b: &[u8]) -> bool
 }
 
 // Places from k on are not in use.
-fn unused_from(b: &[u8], k: usize) -> bool
-    requires { ⌜ (length (now b) ≡ 834) × (k ≤ 64) ⌝ }
+fn unused_from(b: &[u8], k: u8) -> bool
+    requires { ⌜ length (now b) ≡ 834 ⌝ }
     ensures { λ r. ⌜ r ≡ every (unusedAt (now (b .entry)) k) 64 ⌝ }
 {
+    let numbers = place_numbers();
     let mut ok = true;
-    let mut i = k;
+    let mut i = 0;
     while i < Settings::PLACES {
-        ok = ok & (b[Layout::STATUS + i] == 0);
+        ok = ok & ((numbers[i] < k) | (b[Layout::STATUS + i] == 0));
         i += 1;
     }
     ok
@@ -212,6 +214,6 @@ pub fn sound(w: &[u32], h: &[u16], b: &[u8]) -> bool
     let bytes = bytes_sound(b);
     let wide = wide_sound(w, h, b);
     let lists = lists_sound(w, b);
-    let unused = unused_from(b, settings.contexts as usize);
+    let unused = unused_from(b, settings.contexts);
     bytes & wide & lists & unused
 }

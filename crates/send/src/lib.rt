@@ -1,8 +1,8 @@
 // A send: what the compressor makes of a packet.
 //
-// The table's layout is `compressor_table`'s, its soundness and the lookup of a flow's context are `compressor_walk`'s, and the
-// definition `sendOf`, which says all that a send does, is `compressor`'s. What goes out on a context is decided in `outgoing`;
-// here a packet finds its context, which is read out and stored back, and the result finds its output.
+// The table's layout is `compressor_table`'s, its soundness `compressor_walk`'s, the lookup of a flow's context `compressor_places`'s,
+// and the definition `sendOf`, which says all that a send does, is `compressor`'s. What goes out on a context is decided in
+// `outgoing`; here a packet finds its context, which is read out and stored back, and the result finds its output.
 // Read `send` first.
 ghost use mathlib.Core.Path.{_≡_};
 ghost use Rattle.compressor.specs.Send.{sendOf};
@@ -14,11 +14,11 @@ ghost use Rattle.send.specs.Plain.{GoesPlain};
 use bytes::put::put_all;
 use compressor::answer::Outcome;
 use compressor::lookup::Found;
+use compressor_places::lookup::find;
 use compressor_table::layout::Layout;
 use compressor_table::read::context_with;
 use compressor_table::read::list_at;
 use compressor_table::write::put_context;
-use compressor_walk::lookup::find;
 use compressor_walk::sound::sound;
 use headers_read::form::is_compressible;
 use headers_read::read::header_size;

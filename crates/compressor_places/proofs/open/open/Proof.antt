@@ -5,12 +5,12 @@ use denote.Ref.{now}
 use Rattle.settings.specs.Settings as settings
 use Rattle.planes.specs.Planes.{Lent, lent}
 use Rattle.compressor_table.specs.Layout.{sized}
-use Rattle.compressor_walk.proofs.Opened.{open-sized, open-refused, open-accepted}
-use Rattle.compressor_walk.proofs.open.open.Statement.{statement}
-use Rattle.compressor_walk.proofs.open.open.Tie as tie
-use Rattle.compressor_walk.proofs.open.open.Reads as reads
-use Rattle.compressor_walk.proofs.open.open.Lts as lts
-use Rattle.compressor_walk.proofs.open.put_empty.Reads as put-empty-reads
+use Rattle.compressor_places.proofs.Opened.{open-sized, open-refused, open-accepted}
+use Rattle.compressor_places.proofs.open.open.Statement.{statement}
+use Rattle.compressor_places.proofs.open.open.Tie as tie
+use Rattle.compressor_places.proofs.open.open.Reads as reads
+use Rattle.compressor_places.proofs.open.open.Lts as lts
+use Rattle.compressor_places.proofs.open.put_empty.Reads as put-empty-reads
 use Rattle.settings.proofs.Settings.open.Reads as open-reads
 
 abbrev handed : tie.Start → Lent

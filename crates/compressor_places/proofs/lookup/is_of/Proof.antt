@@ -1,10 +1,10 @@
 use denote.Ref.{now}
 use borrow.Author.Needs.{needs}
-use Rattle.compressor_walk.proofs.Found.{isOf-same, isOf-other}
-use Rattle.compressor_walk.proofs.lookup.is_of.Statement.{statement}
-use Rattle.compressor_walk.proofs.lookup.is_of.Tie as tie
-use Rattle.compressor_walk.proofs.lookup.is_of.Reads as reads
-use Rattle.compressor_walk.proofs.lookup.is_of.Lts as lts
+use Rattle.compressor_places.proofs.Found.{isOf-same, isOf-other}
+use Rattle.compressor_places.proofs.lookup.is_of.Statement.{statement}
+use Rattle.compressor_places.proofs.lookup.is_of.Tie as tie
+use Rattle.compressor_places.proofs.lookup.is_of.Reads as reads
+use Rattle.compressor_places.proofs.lookup.is_of.Lts as lts
 
 add-if1 : tie.Need-add-if1
 add-if1 c = search needs

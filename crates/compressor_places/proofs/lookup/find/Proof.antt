@@ -6,12 +6,12 @@ use denote.Ref.{now}
 use Rattle.planes.specs.Planes.{Lent, lent}
 use Rattle.compressor.specs.Lookup.{placeOf}
 use Rattle.compressor_table.specs.LayoutLaws.{fits-sizes, tableOf-contexts}
-use Rattle.compressor_walk.proofs.lookup.find.Statement.{statement}
-use Rattle.compressor_walk.proofs.lookup.find.Tie as tie
-use Rattle.compressor_walk.proofs.lookup.find.Reads as reads
-use Rattle.compressor_walk.proofs.lookup.find.Lts as lts
-use Rattle.compressor_walk.proofs.lookup.lowest_empty.Reads as lowest-empty-reads
-use Rattle.compressor_walk.proofs.lookup.lowest_of.Reads as lowest-of-reads
+use Rattle.compressor_places.proofs.lookup.find.Statement.{statement}
+use Rattle.compressor_places.proofs.lookup.find.Tie as tie
+use Rattle.compressor_places.proofs.lookup.find.Reads as reads
+use Rattle.compressor_places.proofs.lookup.find.Lts as lts
+use Rattle.compressor_places.proofs.lookup.lowest_empty.Reads as lowest-empty-reads
+use Rattle.compressor_places.proofs.lookup.lowest_of.Reads as lowest-of-reads
 
 abbrev handed : tie.Start → Lent
 handed s = lent (now (s .args .w)) (now (s .args .h)) (now (s .args .b))

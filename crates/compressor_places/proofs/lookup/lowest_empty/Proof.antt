@@ -13,11 +13,11 @@ use Rattle.compressor.specs.LookupLaws.{lowest-end}
 use Rattle.compressor.specs.Table.{isEmpty}
 use Rattle.compressor_table.specs.Layout.{tableOf, Fits}
 use Rattle.compressor_table.specs.LayoutLaws.{fits-sizes}
-use Rattle.compressor_walk.proofs.Found.{lowest-at, isEmpty-at}
-use Rattle.compressor_walk.proofs.lookup.lowest_empty.Statement.{statement}
-use Rattle.compressor_walk.proofs.lookup.lowest_empty.Tie as tie
-use Rattle.compressor_walk.proofs.lookup.lowest_empty.Reads as reads
-use Rattle.compressor_walk.proofs.lookup.lowest_empty.Lts as lts
+use Rattle.compressor_places.proofs.Found.{lowest-at, isEmpty-at}
+use Rattle.compressor_places.proofs.lookup.lowest_empty.Statement.{statement}
+use Rattle.compressor_places.proofs.lookup.lowest_empty.Tie as tie
+use Rattle.compressor_places.proofs.lookup.lowest_empty.Reads as reads
+use Rattle.compressor_places.proofs.lookup.lowest_empty.Lts as lts
 
 abbrev Inv-loop : tie.InvT-loop
 Inv-loop w h b k i₀ i = (i ≤ k) × (k ≤ 64) × (length b ≡ 1282) × (lowest isEmpty (tableOf (lent w h b) .contexts) 0 k

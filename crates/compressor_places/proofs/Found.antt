@@ -15,8 +15,7 @@ use Rattle.compressor.specs.LookupLaws.{lowest-next}
 use Rattle.compressor.specs.Table.{isEmpty}
 use Rattle.planes.specs.Planes.{Lent, cell}
 use Rattle.compressor_table.specs.Layout.{contextOf, contextIn, tableOf, Fits}
-use Rattle.compressor_table.specs.LayoutLaws.{tableOf-at}
-use Rattle.compressor_walk.proofs.Walk.{empty-status}
+use Rattle.compressor_table.specs.LayoutLaws.{tableOf-at, empty-status}
 
 ---- is_of
 

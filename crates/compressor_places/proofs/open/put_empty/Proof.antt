@@ -5,11 +5,11 @@ use denote.Ref.{now}
 use lib.ListN.{length, replicate, length-replicate}
 use Rattle.planes.specs.Planes.{Lent, lent}
 use Rattle.compressor_table.specs.LayoutLaws.{Sizes, sized-true}
-use Rattle.compressor_walk.proofs.Opened.{cleared-length, cleared-put, cleared}
-use Rattle.compressor_walk.proofs.open.put_empty.Statement.{statement}
-use Rattle.compressor_walk.proofs.open.put_empty.Tie as tie
-use Rattle.compressor_walk.proofs.open.put_empty.Reads as reads
-use Rattle.compressor_walk.proofs.open.put_empty.Lts as lts
+use Rattle.compressor_places.proofs.Opened.{cleared-length, cleared-put, cleared}
+use Rattle.compressor_places.proofs.open.put_empty.Statement.{statement}
+use Rattle.compressor_places.proofs.open.put_empty.Tie as tie
+use Rattle.compressor_places.proofs.open.put_empty.Reads as reads
+use Rattle.compressor_places.proofs.open.put_empty.Lts as lts
 use Rattle.planes.proofs.clear.clear_bytes.Reads as clear-bytes-reads
 use Rattle.planes.proofs.clear.clear_shorts.Reads as clear-shorts-reads
 use Rattle.planes.proofs.clear.clear_words.Reads as clear-words-reads

@@ -13,12 +13,12 @@ use Rattle.compressor.specs.LookupLaws.{lowest-end}
 use Rattle.compressor.specs.Table.{isEmpty}
 use Rattle.compressor_table.specs.Layout.{tableOf, Fits}
 use Rattle.compressor_table.specs.LayoutLaws.{fits-sizes}
-use Rattle.compressor_walk.proofs.Found.{lowest-at, isEmpty-at}
-use Rattle.compressor_walk.proofs.lookup.lowest_of.Statement.{statement}
-use Rattle.compressor_walk.proofs.lookup.lowest_of.Tie as tie
-use Rattle.compressor_walk.proofs.lookup.lowest_of.Reads as reads
-use Rattle.compressor_walk.proofs.lookup.lowest_of.Lts as lts
-use Rattle.compressor_walk.proofs.lookup.is_of.Reads as is-of-reads
+use Rattle.compressor_places.proofs.Found.{lowest-at, isEmpty-at}
+use Rattle.compressor_places.proofs.lookup.lowest_of.Statement.{statement}
+use Rattle.compressor_places.proofs.lookup.lowest_of.Tie as tie
+use Rattle.compressor_places.proofs.lookup.lowest_of.Reads as reads
+use Rattle.compressor_places.proofs.lookup.lowest_of.Lts as lts
+use Rattle.compressor_places.proofs.lookup.is_of.Reads as is-of-reads
 
 abbrev Inv-loop : tie.InvT-loop
 Inv-loop w h b k f i₀ i = (i ≤ k) × (k ≤ 64) × (lowest (isOf f) (tableOf (lent w h b) .contexts) 0 k
