@@ -19,7 +19,8 @@ use Rattle.compressor.specs.Table.{isEmpty, soundOf, unopened}
 use Rattle.compressor.specs.TableLaws.{unsound-unopened}
 use Rattle.compressor.specs.declared.table.Table.{Table}
 use Rattle.planes.specs.Planes.{Lent, cell, row, places, every}
-use Rattle.planes.specs.EveryLaws.{every-and, every-same, every-swap, every-at, every-made, all-places, tail-places, every-given, passed}
+use Rattle.planes.specs.EveryLaws.{every-and, every-same, every-swap, every-at, every-made}
+use Rattle.planes.specs.EveryLaws.{all-places, tail-places, every-given, passed}
 use Rattle.planes.specs.ChainLaws.{Chain, none, leaf, both, eval, implied, same, absorbed, absorbed′, under, one-zero}
 use Rattle.compressor_table.specs.Layout.{usageOf, contextOf, contextIn, planeTable, sized, typed, fits, tableOf}
 use Rattle.compressor_table.specs.LayoutLaws.{empty-status}

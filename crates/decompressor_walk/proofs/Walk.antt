@@ -19,7 +19,8 @@ use Rattle.decompressor.specs.Table.{emptyBy, isEmpty, soundOf, unopened}
 use Rattle.decompressor.specs.TableLaws.{unsound-unopened}
 use Rattle.decompressor.specs.declared.table.Table.{Table}
 use Rattle.planes.specs.Planes.{Lent, cell, row, places, every}
-use Rattle.planes.specs.EveryLaws.{every-and, every-same, every-swap, every-at, every-made, every-true, all-places, tail-places, every-given, passed}
+use Rattle.planes.specs.EveryLaws.{every-and, every-same, every-swap, every-at, every-made, every-true}
+use Rattle.planes.specs.EveryLaws.{all-places, tail-places, every-given, passed}
 use Rattle.planes.specs.ChainLaws.{Chain, none, leaf, both, eval, implied, same, absorbed, absorbed′, under, one-zero}
 use Rattle.decompressor_table.specs.Layout.{statusOf, flowOf, ipOf, rtpOf, listOf, deltasOf, linkOf, contextOf}
 use Rattle.decompressor_table.specs.Layout.{contextIn, planeTable, sized, typed, fits, tableOf}

@@ -1,8 +1,8 @@
 // A send: what the compressor makes of a packet.
 //
-// The table's layout is `compressor_table`'s, its soundness `compressor_walk`'s, the lookup of a flow's context `compressor_places`'s,
-// and the definition `sendOf`, which says all that a send does, is `compressor`'s. What goes out on a context is decided in
-// `outgoing`; here a packet finds its context, which is read out and stored back, and the result finds its output.
+// The table's layout is `compressor_table`'s, its soundness `compressor_walk`'s, and the lookup of a flow's context
+// `compressor_places`'s; the definition `sendOf`, which says all that a send does, is `compressor`'s. What goes out on a context is
+// decided in `outgoing`; here a packet finds its context, which is read out and stored back, and the result finds its output.
 // Read `send` first.
 ghost use mathlib.Core.Path.{_≡_};
 ghost use Rattle.compressor.specs.Send.{sendOf};
