@@ -1,106 +1,44 @@
 //! The peer beside the oracle: scripts of the oracle's generators call for call, and tables in which one field was changed.
 
+#[path = "support/checks.rs"]
+mod checks;
 #[path = "../../second/src/packets.rs"]
 mod packets;
+#[path = "support/script.rs"]
+mod script;
+#[path = "support/second.rs"]
+mod second;
 #[path = "support/side_by_side.rs"]
 mod side_by_side;
+#[path = "support/soundness.rs"]
+mod soundness;
 #[path = "support/tables.rs"]
 mod tables;
 
-use oracle::flows::Flow;
+use checks::leave;
 use oracle::mutant::Mutant;
-use oracle::planned::Planner;
-use oracle::prng::Prng;
 use oracle::script::{
-    compressor_table_field, decompressor_table_field, Field, COMPRESSOR_FIELDS, DECOMPRESSOR_FIELDS,
+    compressor_table_field, decompressor_table_field, COMPRESSOR_FIELDS, DECOMPRESSOR_FIELDS,
 };
-use oracle::{generate, generate_checksums, generate_endpoint, generate_saves};
 use peer::compressor::{BLANK, EARLIER};
 use peer::decompressor::{CARRIED, FILLED, MARKER};
 use peer::kept::{EXTENSION, PADDING, STATUS};
 use peer::PLACES;
-use side_by_side::{compare, Outcome, Seen, KINDS};
+use script::script;
+use second::Second;
+use side_by_side::compare;
+use soundness::{benchmark_packets, sound_tables, VALUES};
 use tables::{
-    lay_out_compressor, lay_out_decompressor, of_every_place, put_compressor, put_decompressor,
-    take_compressor, take_decompressor,
+    lay_out_compressor, lay_out_decompressor, of_every_place, take_compressor, take_decompressor,
 };
-
-// Scripts
-
-const SCRIPTS: [(&str, usize); 5] = [
-    ("both tables", 150_000),
-    ("sender", 60_000),
-    ("box", 80_000),
-    ("saves", 20_000),
-    ("checksums", 60_000),
-];
-
-/// Lines without end.
-fn script(name: &str, seed: u64) -> Box<dyn Iterator<Item = String>> {
-    fn lines(mut planner: impl Planner + 'static) -> Box<dyn Iterator<Item = String>> {
-        Box::new(std::iter::repeat_with(move || planner.next_line()))
-    }
-    match name {
-        "both tables" => lines(generate::Generator::new(seed, false)),
-        "sender" => lines(generate::Generator::new(seed, true)),
-        "box" => lines(generate_endpoint::Generator::new(seed)),
-        "saves" => lines(generate_saves::Generator::new(seed)),
-        _ => lines(generate_checksums::Generator::new(seed)),
-    }
-}
-
-fn leave(_: usize, _: &mut Outcome) {}
 
 #[test]
 fn scripts_call_for_call() {
-    let mut all = Seen::default();
-    for (name, count) in SCRIPTS {
-        let mut seen = Seen::default();
-        for seed in [2508, 3545] {
-            seen.add(&compare(
-                script(name, seed).take(count / 2),
-                Mutant::None,
-                usize::MAX,
-                leave,
-            ));
-        }
-        println!(
-            "{name}: {} calls in {count} lines, {} differences",
-            seen.calls, seen.differences
-        );
-        all.add(&seen);
-    }
-    println!("all: {} calls, {} differences", all.calls, all.differences);
-    println!(
-        "accepted sends: plain {}, FH {}, CU {}, CR {}",
-        all.types[0], all.types[1], all.types[2], all.types[3]
-    );
-    for (kind, numbers) in KINDS.iter().zip(&all.numbers) {
-        println!("{kind:?} by number, from 0: {numbers:?}");
-    }
-    assert_eq!(all.differences, 0, "{}", all.first.unwrap_or_default());
-    assert!(all.calls >= 200_000);
-    // A comparison of calls that never come would show nothing.
-    assert!(all.types.iter().all(|&count| count >= 1000));
-    let opening: &[usize] = &[0, 1];
-    let receive = &[0, 1, 2, 3, 4, 5, 6, 7, 8, 9, 10, 11, 12];
-    let reached = [
-        opening,
-        opening,
-        &[0, 1, 2, 11],
-        receive,
-        &[0, 1, 4, 5, 6],
-        &[0, 1, 11],
-    ];
-    for ((kind, numbers), reached) in KINDS.iter().zip(all.numbers).zip(reached) {
-        for (number, count) in numbers.into_iter().enumerate() {
-            assert_eq!(
-                count >= 25,
-                reached.contains(&number),
-                "{kind:?} answered {number} {count} times"
-            );
-        }
-    }
+    checks::scripts_call_for_call(without_fault);
+}
+
+fn without_fault() -> Second {
+    Second::with(Mutant::None)
 }
 
 // That the comparison can fail
@@ -122,9 +60,10 @@ fn every_fault_is_noticed() {
     let mut noticed = 0;
     for mutant in faults() {
         let scripts = ["both tables", "checksums", "sender"];
-        let first = scripts
-            .iter()
-            .find_map(|name| compare(script(name, 7).take(60_000), mutant, 1, leave).first);
+        let first = scripts.iter().find_map(|name| {
+            let lines = script(name, 7).take(60_000);
+            compare(&mut Second::with(mutant), lines, 1, leave).first
+        });
         let first = first.unwrap_or_else(|| panic!("{mutant:?} is not noticed"));
         println!("{mutant:?}: {first:.100}");
         noticed += 1;
@@ -133,75 +72,9 @@ fn every_fault_is_noticed() {
     assert_eq!(noticed, 53);
 }
 
-/// Tampers with one call, and tells how many differences were seen.
-fn differences_after(tamper: impl Fn(&mut Outcome) -> bool) -> usize {
-    let mut tampered = false;
-    let once = |call: usize, outcome: &mut Outcome| {
-        if call >= 100 && !tampered {
-            tampered = tamper(outcome);
-        }
-    };
-    let seen = compare(
-        script("both tables", 9).take(400),
-        Mutant::None,
-        usize::MAX,
-        once,
-    );
-    assert!(tampered && seen.calls > 200);
-    seen.differences
-}
-
 #[test]
 fn one_bit_is_noticed() {
-    let flip = |byte: Option<&mut u8>, bit: usize| byte.map(|byte| *byte ^= 1 << bit).is_some();
-    for bit in 0..8 {
-        let number = |outcome: &mut Outcome| flip(Some(&mut outcome.number), bit);
-        let link_type = |outcome: &mut Outcome| {
-            outcome.link_type ^= 1 << bit;
-            true
-        };
-        let length = |outcome: &mut Outcome| {
-            outcome.length ^= 1 << bit;
-            true
-        };
-        let first = |outcome: &mut Outcome| flip(outcome.output.first_mut(), bit);
-        let last = |outcome: &mut Outcome| flip(outcome.output.last_mut(), bit);
-        assert_eq!(differences_after(number), 1);
-        assert_eq!(differences_after(link_type), 1);
-        assert_eq!(differences_after(length), 1);
-        assert_eq!(differences_after(first), 1);
-        assert_eq!(differences_after(last), 1);
-    }
-    // Every field at some place.
-    for (name, place) in of_every_place(&COMPRESSOR_FIELDS).step_by(61) {
-        let field = |outcome: &mut Outcome| {
-            let mut table = take_compressor(&outcome.compressor);
-            flip_some_bit(compressor_table_field(&mut table, name, place));
-            outcome.compressor = lay_out_compressor(&table);
-            true
-        };
-        assert_eq!(differences_after(field), 1, "{name} {place}");
-    }
-    for (name, place) in of_every_place(&DECOMPRESSOR_FIELDS).step_by(61) {
-        let field = |outcome: &mut Outcome| {
-            let mut table = take_decompressor(&outcome.decompressor);
-            flip_some_bit(decompressor_table_field(&mut table, name, place));
-            outcome.decompressor = lay_out_decompressor(&table);
-            true
-        };
-        assert_eq!(differences_after(field), 1, "{name} {place}");
-    }
-}
-
-/// Flips the lowest bit, or leaves 0 of a status that has no such neighbour.
-fn flip_some_bit(field: Option<Field>) {
-    let field = field.expect("a field");
-    let flipped = field.get() ^ 1;
-    let flipped = match field {
-        Field::Status(_) => flipped % 3,
-        _ => flipped,
-    };
-    assert!(field.set(flipped));
+    checks::one_bit_is_noticed(without_fault);
 }
 
 /// Tables are compared as they are laid out for the peer, so no field may get lost on the way.
@@ -241,180 +114,14 @@ fn every_field_is_laid_out() {
 
 // One field changed
 
-fn benchmark_packets() -> packets::Buffer {
-    let mut buffer = [[0; packets::PACKET]; packets::BATCH];
-    packets::make_batch(64, 0, &mut buffer);
-    buffer
-}
-
-fn packet_with_list(prng: &mut Prng) -> Vec<u8> {
-    loop {
-        let packet = Flow::new(prng).next_packet(prng, 0, 0);
-        if packet.get(28).is_some_and(|first| first & 15 > 0) {
-            return packet;
-        }
-    }
-}
-
-/// Sound tables: opened with K contexts, so many of which are in use. Flows have lists, other packets are the benchmark's, which
-/// have none. A walk may take another way for each of them.
-fn sound_tables() -> Vec<(oracle::compressor::Table, oracle::decompressor::Table)> {
-    let mut prng = Prng::new(1889);
-    let mut made = Vec::new();
-    for (n, k, used, lists) in [
-        (2, 64, 0, false),
-        (2, 64, 1, false),
-        (1, 64, 16, false),
-        (0, 64, 17, false),
-        (2, 64, 48, true),
-        (2, 64, 49, false),
-        (2, 64, 64, false),
-        (14, 64, 64, true),
-        (3, 64, 63, true),
-        (1, 40, 40, false),
-        (2, 1, 1, true),
-    ] {
-        let mut compressor = oracle::compressor::Table::unopened();
-        let mut decompressor = oracle::decompressor::Table::unopened();
-        oracle::compressor::open(&mut compressor, n, k);
-        oracle::decompressor::open(&mut decompressor, n, k);
-        for stream in 0..used {
-            // Two flows may turn out to be one; then the next is tried.
-            while !compressor.places[stream].live {
-                let packet = if lists {
-                    packet_with_list(&mut prng)
-                } else {
-                    benchmark_packets()[stream].to_vec()
-                };
-                let mut link = [0; 1500];
-                let sent = oracle::compressor::send(&mut compressor, &packet, &mut link);
-                let link = &link[..sent.length];
-                let received = oracle::decompressor::receive(
-                    &mut decompressor,
-                    sent.link_type,
-                    link,
-                    &mut [0; 1500],
-                );
-                assert_eq!((sent.number, received.number), (0, 0));
-            }
-        }
-        assert_eq!(
-            compressor
-                .places
-                .iter()
-                .filter(|context| context.live)
-                .count(),
-            used
-        );
-        made.push((compressor.clone(), decompressor.clone()));
-        // The same with broken contexts: every third, filled or not, by a gap of 0.
-        for place in (0..k as u8).step_by(3) {
-            let again = [
-                place,
-                decompressor.places[usize::from(place)].last_link,
-                0,
-                0,
-            ];
-            let answer = oracle::decompressor::receive(
-                &mut decompressor,
-                oracle::COMPRESSED_RTP,
-                &again,
-                &mut [],
-            );
-            assert!([8, 9].contains(&answer.number));
-        }
-        made.push((compressor, decompressor));
-    }
-    made
-}
-
-/// Around every limit that a rule has.
-const VALUES: [u32; 37] = [
-    0,
-    1,
-    2,
-    3,
-    4,
-    5,
-    7,
-    8,
-    13,
-    14,
-    15,
-    16,
-    17,
-    31,
-    32,
-    63,
-    64,
-    65,
-    127,
-    128,
-    129,
-    254,
-    255,
-    256,
-    16_383,
-    16_384,
-    32_767,
-    32_768,
-    49_152,
-    65_535,
-    65_536,
-    4_194_303,
-    4_194_304,
-    0x8000_0000,
-    0xffff_bfff,
-    0xffff_c000,
-    0xffff_ffff,
-];
-
 #[test]
 fn one_field_changed() {
-    let mut judged = [0; 2];
-    for (mut compressor, mut decompressor) in sound_tables() {
-        let mut peer = lay_out_compressor(&compressor);
-        for (name, place) in of_every_place(&COMPRESSOR_FIELDS) {
-            let field = compressor_table_field(&mut compressor, name, place);
-            let before = field.expect("a field").get();
-            for value in VALUES.into_iter().chain([before]) {
-                let field = compressor_table_field(&mut compressor, name, place);
-                if !field.expect("a field").set(value) {
-                    continue;
-                }
-                (peer.repeats, peer.contexts) = (compressor.repeats, compressor.contexts);
-                put_compressor(&mut peer, place, &compressor.places[place]);
-                // With no bytes a request is refused as soon as the table is found sound.
-                let wanted = oracle::compressor::request(&mut compressor, &[]);
-                let answer = peer::compressor::request(&mut peer, &[]);
-                assert_eq!(answer.number, wanted.number, "{name} {place} {value}");
-                judged[usize::from(wanted.number == 1)] += 1;
-            }
-        }
-        let mut peer = lay_out_decompressor(&decompressor);
-        for (name, place) in of_every_place(&DECOMPRESSOR_FIELDS) {
-            let field = decompressor_table_field(&mut decompressor, name, place);
-            let before = field.expect("a field").get();
-            for value in VALUES.into_iter().chain([before]) {
-                let field = decompressor_table_field(&mut decompressor, name, place);
-                if !field.expect("a field").set(value) {
-                    continue;
-                }
-                (peer.repeats, peer.contexts) = (decompressor.repeats, decompressor.contexts);
-                put_decompressor(&mut peer, place, &decompressor.places[place]);
-                // No type is known above 3.
-                let wanted = oracle::decompressor::receive(&mut decompressor, 4, &[], &mut []);
-                let answer = peer::decompressor::receive(&mut peer, 4, &[], &mut []);
-                assert_eq!(answer.number, wanted.number, "{name} {place} {value}");
-                judged[usize::from(wanted.number == 1)] += 1;
-            }
-        }
-    }
-    println!(
-        "tables with one field changed: {} sound, {} not",
-        judged[0], judged[1]
-    );
-    assert!(judged.iter().all(|&count| count > 300_000));
+    soundness::one_field_changed(|tables| {
+        let mut second = without_fault();
+        second.runner.compressor.clone_from(&tables.compressor);
+        second.runner.decompressor.clone_from(&tables.decompressor);
+        second
+    });
 }
 
 /// A status or a bit can be a byte here that the oracle's types cannot hold. Then every call is refused and leaves everything.
@@ -423,8 +130,8 @@ fn bytes_that_are_no_bits() {
     let mut refused = 0;
     let packet = &benchmark_packets()[0];
     let state = [1, 1, 0, 0x80, 0];
-    for (compressor, decompressor) in sound_tables() {
-        let compressor = lay_out_compressor(&compressor);
+    for tables in sound_tables() {
+        let compressor = lay_out_compressor(&tables.compressor);
         for (plane, place, value) in every_byte(5, 2) {
             let mut table = compressor.clone();
             let planes = [STATUS, PADDING, EXTENSION, BLANK, EARLIER];
@@ -437,7 +144,7 @@ fn bytes_that_are_no_bits() {
             assert!(table == left && output == [0xaa; 256]);
             refused += 2;
         }
-        let decompressor = lay_out_decompressor(&decompressor);
+        let decompressor = lay_out_decompressor(&tables.decompressor);
         for (plane, place, value) in every_byte(6, 3).chain(every_byte(5, 2)) {
             let mut table = decompressor.clone();
             let planes = [PADDING, EXTENSION, FILLED, CARRIED, MARKER, STATUS];

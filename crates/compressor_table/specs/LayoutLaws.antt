@@ -13,7 +13,7 @@ use Rattle.context.specs.declared.compressor.Usage.{Usage}
 use Rattle.context.specs.declared.compressor.Usage.the-variants.{Empty, Live}
 use Rattle.context.specs.declared.compressor.CompressorContext.{CompressorContext}
 use Rattle.compressor.specs.declared.table.Table.{Table}
-use Rattle.compressor.specs.Table.{contextAt, withContext, noContext, unopened, soundOf}
+use Rattle.compressor.specs.Table.{contextAt, withContext, noContext, emptyBy, unopened, soundOf}
 use Rattle.compressor.specs.TableLaws.{unsound-unopened}
 use Rattle.planes.specs.Planes.{Lent, lent, cell, row, replaced, places, every}
 use Rattle.planes.specs.PlanesLaws.{length-replaced, row-same, row-other, replaced-row, getD-past}
@@ -92,6 +92,15 @@ length-planes l = length-places (contextIn (l .words) (l .shorts) (l .bytes)) 0 
 
 pub length-tableOf : (l : Lent) → Fits l → length (tableOf l .contexts) ≡ 64
 length-tableOf l e = ap (λ (t : Table). length (t .contexts)) (tableOf-fits l e) ∙ length-planes l
+
+---- a status
+
+pub empty-status : (s : ℕ) → eqb s 0 ≡ emptyBy (usageOf s)
+empty-status s = by (eqb s 0)
+  where
+    by : (z : Bool) → z ≡ emptyBy (cond z Empty Live)
+    by true = refl
+    by false = refl
 
 ---- a row both ways
 

@@ -63,11 +63,12 @@ fn rtp_at(w: &[u32], h: &[u16], b: &[u8], i: usize) -> Rtp
     }
 }
 
-fn words_at(w: &[u32], i: usize) -> [u32; Csrc::PLACES]
-    requires { ⌜ (length (now w) ≡ 1344) × (i < 64) ⌝ }
-    ensures { λ r. ⌜ r ≡ row (now (w .entry)) i 6 15 ⌝ }
+// The CSRC list of the context at place i.
+pub fn list_at(w: &[u32], b: &[u8], i: usize) -> Csrc
+    requires { ⌜ (length (now w) ≡ 1344) × (length (now b) ≡ 1282) × (i < 64) ⌝ }
+    ensures { λ r. ⌜ r ≡ listOf (row (now (w .entry)) i 0 21) (row (now (b .entry)) i 0 20) ⌝ }
 {
-    [
+    let words = [
         w[Layout::CSRC + i],
         w[Layout::CSRC + 64 + i],
         w[Layout::CSRC + 128 + i],
@@ -83,14 +84,7 @@ fn words_at(w: &[u32], i: usize) -> [u32; Csrc::PLACES]
         w[Layout::CSRC + 768 + i],
         w[Layout::CSRC + 832 + i],
         w[Layout::CSRC + 896 + i],
-    ]
-}
-
-fn list_at(w: &[u32], b: &[u8], i: usize) -> Csrc
-    requires { ⌜ (length (now w) ≡ 1344) × (length (now b) ≡ 1282) × (i < 64) ⌝ }
-    ensures { λ r. ⌜ r ≡ listOf (row (now (w .entry)) i 0 21) (row (now (b .entry)) i 0 20) ⌝ }
-{
-    let words = words_at(w, i);
+    ];
     Csrc {
         count: b[Layout::COUNT + i],
         words: words,
@@ -144,9 +138,10 @@ fn link_at(b: &[u8], i: usize) -> Link
     }
 }
 
-// The context at place i.
-pub fn context_at(w: &[u32], h: &[u16], b: &[u8], i: usize) -> CompressorContext
-    requires { ⌜ (length (now w) ≡ 1344) × (length (now h) ≡ 384) × (length (now b) ≡ 1282) × (i < 64) ⌝ }
+// The context at place i, whose list was read. In two parts it is small enough for the compiler to put it where it is called.
+pub fn context_with(w: &[u32], h: &[u16], b: &[u8], i: usize, csrc: Csrc) -> CompressorContext
+    requires { ⌜ (length (now w) ≡ 1344) × (length (now h) ≡ 384) × (length (now b) ≡ 1282) × (i < 64)
+        × (csrc ≡ listOf (row (now w) i 0 21) (row (now b) i 0 20)) ⌝ }
     ensures { λ r. ⌜ r ≡ contextIn (now (w .entry)) (now (h .entry)) (now (b .entry)) i ⌝ }
 {
     let status = usage_of(b[Layout::STATUS + i]);
@@ -154,7 +149,6 @@ pub fn context_at(w: &[u32], h: &[u16], b: &[u8], i: usize) -> CompressorContext
     let flow = flow_at(w, h, i);
     let ip = ip_at(h, b, i);
     let rtp = rtp_at(w, h, b, i);
-    let csrc = list_at(w, b, i);
     let deltas = deltas_at(w, h, i);
     let earlier = earlier_at(w, h, b, i);
     let due = due_at(b, i);
@@ -171,4 +165,13 @@ pub fn context_at(w: &[u32], h: &[u16], b: &[u8], i: usize) -> CompressorContext
         due: due,
         link: link,
     }
+}
+
+// The context at place i.
+pub fn context_at(w: &[u32], h: &[u16], b: &[u8], i: usize) -> CompressorContext
+    requires { ⌜ (length (now w) ≡ 1344) × (length (now h) ≡ 384) × (length (now b) ≡ 1282) × (i < 64) ⌝ }
+    ensures { λ r. ⌜ r ≡ contextIn (now (w .entry)) (now (h .entry)) (now (b .entry)) i ⌝ }
+{
+    let csrc = list_at(w, b, i);
+    context_with(w, h, b, i, csrc)
 }

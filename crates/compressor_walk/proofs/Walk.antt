@@ -1,5 +1,5 @@
 -- Iarwennol. The loops of the walk together are the soundness of the table, context by context. Assume nothing.
--- Used by the proof of sound.
+-- Used by the proofs of sound, wide_sound and lists_sound, and by Found.
 use Prim.Native.Nat.{ℕ, zero, suc, _+_, _*_, _%_, _<_}
 use mathlib.Core.Path.{_≡_, refl, sym, ap, _∙_}
 use mathlib.Core.Bool.{Bool, true, false, cond, not, _&&_, _||_, and-assoc, or-true, and-eq-true-iff}
@@ -15,14 +15,17 @@ use Rattle.context.specs.Sound.{isZero, zeros, soundList, soundLink, soundDue, 
 use Rattle.context.specs.Sound.{soundCompressorBy, soundCompressor}
 use Rattle.context.specs.declared.compressor.Usage.the-variants.{Empty, Live}
 use Rattle.context.specs.declared.compressor.CompressorContext.{CompressorContext}
-use Rattle.compressor.specs.Table.{emptyBy, isEmpty, soundOf, unopened}
+use Rattle.compressor.specs.Table.{isEmpty, soundOf, unopened}
 use Rattle.compressor.specs.TableLaws.{unsound-unopened}
 use Rattle.compressor.specs.declared.table.Table.{Table}
 use Rattle.planes.specs.Planes.{Lent, cell, row, places, every}
-use Rattle.planes.specs.EveryLaws.{every-and, every-same, every-swap, every-at, every-made, all-places, tail-places}
+use Rattle.planes.specs.EveryLaws.{every-and, every-same, every-swap, every-at, every-made}
+use Rattle.planes.specs.EveryLaws.{all-places, tail-places, every-given, passed}
 use Rattle.planes.specs.ChainLaws.{Chain, none, leaf, both, eval, implied, same, absorbed, absorbed′, under, one-zero}
 use Rattle.compressor_table.specs.Layout.{usageOf, contextOf, contextIn, planeTable, sized, typed, fits, tableOf}
+use Rattle.compressor_table.specs.LayoutLaws.{empty-status}
 use Rattle.compressor_walk.specs.Walk.{headTest, dueTest, shortTest, wordTest, pastAt, listFree, unusedAt}
+use Rattle.compressor_walk.specs.Walk.{usedAt, evenAt, codedAt}
 
 ---- One place in use: the same tests in another order
 
@@ -318,24 +321,18 @@ meets n w h b i =
 -- planes first, or places first
 walk : (H D S W T C : ℕ → Bool) (P : ℕ → ℕ → Bool) (m q : ℕ)
     → ((i : ℕ) → i < m → (H i && D i && S i && W i && every (λ (k : ℕ). P k i) q) ≡ (T i && C i))
-    → (every H m && every D m && every S m && every W m && every (λ (k : ℕ). every (P k) m) q) ≡ (every T m && every C m)
+    → (every H m && every D m && (every S m && every W m) && every (λ (k : ℕ). every (P k) m) q) ≡ (every T m && every C m)
 walk H D S W T C P m q h =
     let Q : ℕ → Bool = λ (i : ℕ). every (λ (k : ℕ). P k i) q in
     let two : ℕ → Bool = λ (i : ℕ). H i && D i in
     let three : ℕ → Bool = λ (i : ℕ). H i && D i && S i in
     let four : ℕ → Bool = λ (i : ℕ). H i && D i && S i && W i in
-    ap (λ (x : Bool). every H m && every D m && every S m && every W m && x) (every-swap P q m)
+    ap (λ (x : Bool). every H m && every D m && (every S m && every W m) && x) (every-swap P q m)
+    ∙ ap (λ (x : Bool). x && every Q m) (sym (and-assoc (every H m && every D m) (every S m) (every W m)))
     ∙ sym (every-and four Q m ∙ ap (λ (x : Bool). x && every Q m) (every-and three W m
     ∙ ap (λ (x : Bool). x && every W m) (every-and two S m ∙ ap (λ (x : Bool). x && every S m) (every-and H D m))))
     ∙ every-same (λ (i : ℕ). four i && Q i) (λ (i : ℕ). T i && C i) m h
     ∙ every-and T C m
-
-pub empty-status : (s : ℕ) → eqb s 0 ≡ emptyBy (usageOf s)
-empty-status s = by (eqb s 0)
-  where
-    by : (z : Bool) → z ≡ emptyBy (cond z Empty Live)
-    by true = refl
-    by false = refl
 
 -- no word in any list
 pub free-past : (w b : List ℕ) → every (listFree w) 960 ≡ true → true ≡ every (λ (k : ℕ). every (pastAt w b k) 64) 15
@@ -348,6 +345,22 @@ free-past w b e =
         let z : eqb (cell w (6 + k) i) 0 ≡ true =
         ap (λ (y : ℕ). eqb (getD w y 0) 0) (sym x) ∙ every-at (listFree w) 960 (64 * k + i) (omega arith) e in
         rw z (or-true (ltb k (cell b 8 i)))
+
+-- every place in use: of the wide numbers only the ranges are left
+module _ (w h b : List ℕ) where
+  abbrev shortAt : ℕ → Bool
+  shortAt i = shortTest (row h i 0 6) (row b i 0 20)
+
+  abbrev wordAt : ℕ → Bool
+  wordAt i = wordTest (row w i 0 21) (row b i 0 20)
+
+  pub wide-used : every (usedAt b) 64 ≡ true → (every (evenAt h) 64 && every (codedAt w) 64) ≡ (every shortAt 64 && every wordAt 64)
+  wide-used e =
+      let s = every-given (usedAt b) shortAt (evenAt h) 64 e
+      (λ i a. ap (λ (x : Bool). x && evenAt h i) (passed (usedAt b i) _ a)) in
+      let t = every-given (usedAt b) wordAt (codedAt w) 64 e
+      (λ i a. ap (λ (x : Bool). x && codedAt w i) (passed (usedAt b i) _ a)) in
+      sym (λ j. s j && t j)
 
 ---- The table
 
@@ -390,8 +403,8 @@ module _ (l : Lent) where
 
   together : (every (λ (i : ℕ). headTest (row (l .bytes) i 0 20)) 64
       && every (λ (i : ℕ). dueTest repeats (row (l .bytes) i 0 20)) 64
-      && every (λ (i : ℕ). shortTest (row (l .shorts) i 0 6) (row (l .bytes) i 0 20)) 64
-      && every (λ (i : ℕ). wordTest (row (l .words) i 0 21) (row (l .bytes) i 0 20)) 64
+      && (every (λ (i : ℕ). shortTest (row (l .shorts) i 0 6) (row (l .bytes) i 0 20)) 64
+      && every (λ (i : ℕ). wordTest (row (l .words) i 0 21) (row (l .bytes) i 0 20)) 64)
       && every (λ (k : ℕ). every (pastAt (l .words) (l .bytes) k) 64) 15)
       ≡ (every (typed (l .bytes)) 64 && every (λ (i : ℕ). soundCompressor repeats (at i)) 64)
   together =
@@ -401,18 +414,18 @@ module _ (l : Lent) where
       (λ (i : ℕ). soundCompressor repeats (at i)) (pastAt (l .words) (l .bytes)) 64 15
       (λ i h. meets repeats (l .words) (l .shorts) (l .bytes) i)
 
-  -- the walk's six answers are the table's soundness
-  pub sound-walk : (a b c d e f : Bool) → sized l ≡ true → within ≡ true
+  -- the walk's five answers are the table's soundness
+  pub sound-walk : (a b c d e : Bool) → sized l ≡ true → within ≡ true
       → a ≡ every (λ (i : ℕ). headTest (row (l .bytes) i 0 20)) 64
       → b ≡ every (λ (i : ℕ). dueTest repeats (row (l .bytes) i 0 20)) 64
-      → c ≡ every (λ (i : ℕ). shortTest (row (l .shorts) i 0 6) (row (l .bytes) i 0 20)) 64
-      → d ≡ every (λ (i : ℕ). wordTest (row (l .words) i 0 21) (row (l .bytes) i 0 20)) 64
-      → e ≡ every (λ (k : ℕ). every (pastAt (l .words) (l .bytes) k) 64) 15
-      → f ≡ every (unusedAt (l .bytes) contexts) 64
-      → (a && b && c && d && e && f) ≡ soundOf (tableOf l)
+      → c ≡ (every (λ (i : ℕ). shortTest (row (l .shorts) i 0 6) (row (l .bytes) i 0 20)) 64
+      && every (λ (i : ℕ). wordTest (row (l .words) i 0 21) (row (l .bytes) i 0 20)) 64)
+      → d ≡ every (λ (k : ℕ). every (pastAt (l .words) (l .bytes) k) 64) 15
+      → e ≡ every (unusedAt (l .bytes) contexts) 64
+      → (a && b && c && d && e) ≡ soundOf (tableOf l)
   unfolding tableOf fits
-  sound-walk a b c d e f z s ha hb hc hd he hf =
-      (λ j. ha j && hb j && hc j && hd j && he j && hf j)
+  sound-walk a b c d e z s ha hb hc hd he =
+      (λ j. ha j && hb j && hc j && hd j && he j)
       ∙ (λ j. together j && unused-places j)
       ∙ glue (every (typed (l .bytes)) 64) (every (λ (i : ℕ). soundCompressor repeats (at i)) 64)
       (every (λ (i : ℕ). ltb i contexts || isEmpty (at i)) 64) within (sized l) s z

@@ -77,6 +77,17 @@ wordTest w b =
     && eqb (getD w 5 0) 0))
     && hasCode 32 (getD w 4 0)
 
+-- place i is in use
+abbrev pub usedAt : (b : List ℕ) → (i : ℕ) → Bool
+usedAt b i = not (eqb (cell b 0 i) 0)
+
+-- what is asked of the wide numbers of place i if it is in use: an even port, and a delta that has a code
+abbrev pub evenAt : (h : List ℕ) → (i : ℕ) → Bool
+evenAt h i = eqb (cell h 1 i % 2) 0
+
+abbrev pub codedAt : (w : List ℕ) → (i : ℕ) → Bool
+codedAt w i = hasCode 32 (cell w 4 i)
+
 -- word k of the list of place i: 0 unless the count reaches past it
 abbrev pub pastAt : (w b : List ℕ) → (k i : ℕ) → Bool
 pastAt w b k i = ltb k (cell b 8 i) || eqb (cell w (6 + k) i) 0

@@ -1,12 +1,15 @@
 ghost use mathlib.Core.Path.{_≡_};
+ghost use mathlib.Core.Bool.{_&&_};
 ghost use Prim.Native.Nat.{_<_, _≤_};
 ghost use lib.ListN.{length};
 ghost use Rattle.planes.specs.Planes.{lent, row, every};
 ghost use Rattle.compressor.specs.Table.{soundOf};
 ghost use Rattle.compressor_table.specs.Layout.{tableOf};
 ghost use Rattle.compressor_walk.specs.Walk.{headTest, dueTest, shortTest, wordTest, pastAt, listFree, unusedAt};
+ghost use Rattle.compressor_walk.specs.Walk.{usedAt, evenAt, codedAt};
 use codes::code::has_code32;
 use compressor_table::layout::Layout;
+use planes::numbers::place_numbers;
 use settings::Settings;
 
 // What came from a header, at each place.
@@ -120,6 +123,63 @@ fn words_sound(w: &[u32], b: &[u8]) -> bool
     ok
 }
 
+// Whether every place is in use.
+fn all_used(b: &[u8]) -> bool
+    requires { ⌜ length (now b) ≡ 1282 ⌝ }
+    ensures { λ r. ⌜ r ≡ every (usedAt (now (b .entry))) 64 ⌝ }
+{
+    let mut ok = true;
+    let mut i = 0;
+    while i < Settings::PLACES {
+        ok = ok & !(b[Layout::STATUS + i] == 0);
+        i += 1;
+    }
+    ok
+}
+
+fn ports_even(h: &[u16]) -> bool
+    requires { ⌜ length (now h) ≡ 384 ⌝ }
+    ensures { λ r. ⌜ r ≡ every (evenAt (now (h .entry))) 64 ⌝ }
+{
+    let mut ok = true;
+    let mut i = 0;
+    while i < Settings::PLACES {
+        ok = ok & (h[Layout::DPORT + i] % 2 == 0);
+        i += 1;
+    }
+    ok
+}
+
+fn deltas_coded(w: &[u32]) -> bool
+    requires { ⌜ length (now w) ≡ 1344 ⌝ }
+    ensures { λ r. ⌜ r ≡ every (codedAt (now (w .entry))) 64 ⌝ }
+{
+    let mut ok = true;
+    let mut i = 0;
+    while i < Settings::PLACES {
+        let coded = has_code32(w[Layout::DELTA_TIMESTAMP + i]);
+        ok = ok & coded;
+        i += 1;
+    }
+    ok
+}
+
+// Numbers of 16 and of 32 bits. Where every place is in use none of them has to be 0: two planes are walked in place of twelve.
+fn wide_sound(w: &[u32], h: &[u16], b: &[u8]) -> bool
+    requires { ⌜ (length (now w) ≡ 1344) × (length (now h) ≡ 384) × (length (now b) ≡ 1282) ⌝ }
+    ensures { λ r. ⌜ r ≡ (every (λ i. shortTest (row (now (h .entry)) i 0 6) (row (now (b .entry)) i 0 20)) 64
+        && every (λ i. wordTest (row (now (w .entry)) i 0 21) (row (now (b .entry)) i 0 20)) 64) ⌝ }
+{
+    if all_used(b) {
+        let even = ports_even(h);
+        let coded = deltas_coded(w);
+        return even & coded;
+    }
+    let shorts = shorts_sound(h, b);
+    let words = words_sound(w, b);
+    shorts & words
+}
+
 // Whether no place has a word in its list.
 fn no_lists(w: &[u32]) -> bool
     requires { ⌜ length (now w) ≡ 1344 ⌝ }
@@ -167,14 +227,15 @@ fn lists_sound(w: &[u32], b: &[u8]) -> bool
 }
 
 // Places from k on are not in use.
-fn unused_from(b: &[u8], k: usize) -> bool
-    requires { ⌜ (length (now b) ≡ 1282) × (k ≤ 64) ⌝ }
+fn unused_from(b: &[u8], k: u8) -> bool
+    requires { ⌜ length (now b) ≡ 1282 ⌝ }
     ensures { λ r. ⌜ r ≡ every (unusedAt (now (b .entry)) k) 64 ⌝ }
 {
+    let numbers = place_numbers();
     let mut ok = true;
-    let mut i = k;
+    let mut i = 0;
     while i < Settings::PLACES {
-        ok = ok & (b[Layout::STATUS + i] == 0);
+        ok = ok & ((numbers[i] < k) | (b[Layout::STATUS + i] == 0));
         i += 1;
     }
     ok
@@ -199,9 +260,8 @@ pub fn sound(w: &[u32], h: &[u16], b: &[u8]) -> bool
     }
     let heads = heads_sound(b);
     let dues = dues_sound(settings.repeats, b);
-    let shorts = shorts_sound(h, b);
-    let words = words_sound(w, b);
+    let wide = wide_sound(w, h, b);
     let lists = lists_sound(w, b);
-    let unused = unused_from(b, settings.contexts as usize);
-    heads & dues & shorts & words & lists & unused
+    let unused = unused_from(b, settings.contexts);
+    heads & dues & wide & lists & unused
 }

@@ -49,7 +49,7 @@ pub fn open_compressor(
         (lent (now (w .exit)) (now (h .exit)) (now (b .exit))) r []
         (sending.openLent (lent (now (w .entry)) (now (h .entry)) (now (b .entry))) n k) ⌝ }
 {
-    compressor_walk::open::open(w, h, b, n, k)
+    compressor_places::open::open(w, h, b, n, k)
 }
 
 // Opens a decompressor; both ends of a link are opened with the same n and k.

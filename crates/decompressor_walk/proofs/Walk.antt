@@ -1,5 +1,5 @@
 -- Iarwennol. The loops of the walk together are the soundness of the table, context by context. Assume nothing.
--- Used by the proof of sound.
+-- Used by the proofs of sound, wide_sound and lists_sound.
 use Prim.Native.Nat.{ℕ, zero, suc, _+_, _*_, _<_}
 use mathlib.Core.Path.{_≡_, refl, sym, ap, _∙_}
 use mathlib.Core.Bool.{Bool, true, false, cond, not, _&&_, _||_, and-assoc, and-false, or-true, and-eq-true-iff}
@@ -19,11 +19,13 @@ use Rattle.decompressor.specs.Table.{emptyBy, isEmpty, soundOf, unopened}
 use Rattle.decompressor.specs.TableLaws.{unsound-unopened}
 use Rattle.decompressor.specs.declared.table.Table.{Table}
 use Rattle.planes.specs.Planes.{Lent, cell, row, places, every}
-use Rattle.planes.specs.EveryLaws.{every-and, every-same, every-swap, every-at, every-made, all-places, tail-places}
+use Rattle.planes.specs.EveryLaws.{every-and, every-same, every-swap, every-at, every-made, every-true}
+use Rattle.planes.specs.EveryLaws.{all-places, tail-places, every-given, passed}
 use Rattle.planes.specs.ChainLaws.{Chain, none, leaf, both, eval, implied, same, absorbed, absorbed′, under, one-zero}
 use Rattle.decompressor_table.specs.Layout.{statusOf, flowOf, ipOf, rtpOf, listOf, deltasOf, linkOf, contextOf}
 use Rattle.decompressor_table.specs.Layout.{contextIn, planeTable, sized, typed, fits, tableOf}
 use Rattle.decompressor_walk.specs.Walk.{byteTest, shortTest, wordTest, pastAt, listFree, unusedAt}
+use Rattle.decompressor_walk.specs.Walk.{filledAt, codedAt}
 
 ---- One place that was filled: the same tests in another order
 
@@ -294,12 +296,13 @@ meets w h b i =
 -- planes first, or places first
 walk : (B S W T C : ℕ → Bool) (P : ℕ → ℕ → Bool) (m q : ℕ)
     → ((i : ℕ) → i < m → (B i && S i && W i && every (λ (k : ℕ). P k i) q) ≡ (T i && C i))
-    → (every B m && every S m && every W m && every (λ (k : ℕ). every (P k) m) q) ≡ (every T m && every C m)
+    → (every B m && (every S m && every W m) && every (λ (k : ℕ). every (P k) m) q) ≡ (every T m && every C m)
 walk B S W T C P m q h =
     let Q : ℕ → Bool = λ (i : ℕ). every (λ (k : ℕ). P k i) q in
     let two : ℕ → Bool = λ (i : ℕ). B i && S i in
     let three : ℕ → Bool = λ (i : ℕ). B i && S i && W i in
-    ap (λ (x : Bool). every B m && every S m && every W m && x) (every-swap P q m)
+    ap (λ (x : Bool). every B m && (every S m && every W m) && x) (every-swap P q m)
+    ∙ ap (λ (x : Bool). x && every Q m) (sym (and-assoc (every B m) (every S m) (every W m)))
     ∙ sym (every-and three Q m
     ∙ ap (λ (x : Bool). x && every Q m) (every-and two W m ∙ ap (λ (x : Bool). x && every W m) (every-and B S m)))
     ∙ every-same (λ (i : ℕ). three i && Q i) (λ (i : ℕ). T i && C i) m h
@@ -324,6 +327,21 @@ free-past w b e =
         let z : eqb (cell w (5 + k) i) 0 ≡ true =
         ap (λ (y : ℕ). eqb (getD w y 0) 0) (sym x) ∙ every-at (listFree w) 960 (64 * k + i) (omega arith) e in
         rw z (or-true (ltb k (cell b 10 i)))
+
+-- every place filled: of the wide numbers only the deltas' range is left
+module _ (w h b : List ℕ) where
+  abbrev shortAt : ℕ → Bool
+  shortAt i = shortTest (row h i 0 5) (row b i 0 13)
+
+  abbrev wordAt : ℕ → Bool
+  wordAt i = wordTest (row w i 0 20) (row b i 0 13)
+
+  pub wide-filled : every (filledAt b) 64 ≡ true → every (codedAt w) 64 ≡ (every shortAt 64 && every wordAt 64)
+  wide-filled e =
+      let s = every-given (filledAt b) shortAt (λ (i : ℕ). true) 64 e (λ i a. passed (filledAt b i) _ a) ∙ every-true 64 in
+      let t = every-given (filledAt b) wordAt (codedAt w) 64 e
+      (λ i a. ap (λ (x : Bool). x && codedAt w i) (passed (filledAt b i) _ a)) in
+      sym (λ j. s j && t j)
 
 ---- The table
 
@@ -365,8 +383,8 @@ module _ (l : Lent) where
       (λ i h. ap (λ (x : Bool). ltb i contexts || x) (empty-status (cell (l .bytes) 0 i)))
 
   together : (every (λ (i : ℕ). byteTest (row (l .bytes) i 0 13)) 64
-      && every (λ (i : ℕ). shortTest (row (l .shorts) i 0 5) (row (l .bytes) i 0 13)) 64
-      && every (λ (i : ℕ). wordTest (row (l .words) i 0 20) (row (l .bytes) i 0 13)) 64
+      && (every (λ (i : ℕ). shortTest (row (l .shorts) i 0 5) (row (l .bytes) i 0 13)) 64
+      && every (λ (i : ℕ). wordTest (row (l .words) i 0 20) (row (l .bytes) i 0 13)) 64)
       && every (λ (k : ℕ). every (pastAt (l .words) (l .bytes) k) 64) 15)
       ≡ (every (typed (l .bytes)) 64 && every (λ (i : ℕ). soundDecompressor (at i)) 64)
   together =
@@ -375,17 +393,17 @@ module _ (l : Lent) where
       (λ (i : ℕ). soundDecompressor (at i)) (pastAt (l .words) (l .bytes)) 64 15
       (λ i h. meets (l .words) (l .shorts) (l .bytes) i)
 
-  -- the walk's five answers are the table's soundness
-  pub sound-walk : (a b c d e : Bool) → sized l ≡ true → within ≡ true
+  -- the walk's four answers are the table's soundness
+  pub sound-walk : (a b c d : Bool) → sized l ≡ true → within ≡ true
       → a ≡ every (λ (i : ℕ). byteTest (row (l .bytes) i 0 13)) 64
-      → b ≡ every (λ (i : ℕ). shortTest (row (l .shorts) i 0 5) (row (l .bytes) i 0 13)) 64
-      → c ≡ every (λ (i : ℕ). wordTest (row (l .words) i 0 20) (row (l .bytes) i 0 13)) 64
-      → d ≡ every (λ (k : ℕ). every (pastAt (l .words) (l .bytes) k) 64) 15
-      → e ≡ every (unusedAt (l .bytes) contexts) 64
-      → (a && b && c && d && e) ≡ soundOf (tableOf l)
+      → b ≡ (every (λ (i : ℕ). shortTest (row (l .shorts) i 0 5) (row (l .bytes) i 0 13)) 64
+      && every (λ (i : ℕ). wordTest (row (l .words) i 0 20) (row (l .bytes) i 0 13)) 64)
+      → c ≡ every (λ (k : ℕ). every (pastAt (l .words) (l .bytes) k) 64) 15
+      → d ≡ every (unusedAt (l .bytes) contexts) 64
+      → (a && b && c && d) ≡ soundOf (tableOf l)
   unfolding tableOf fits
-  sound-walk a b c d e z s ha hb hc hd he =
-      (λ j. ha j && hb j && hc j && hd j && he j)
+  sound-walk a b c d z s ha hb hc hd =
+      (λ j. ha j && hb j && hc j && hd j)
       ∙ (λ j. together j && unused-places j)
       ∙ glue (every (typed (l .bytes)) 64) (every (λ (i : ℕ). soundDecompressor (at i)) 64)
       (every (λ (i : ℕ). ltb i contexts || isEmpty (at i)) 64) within (sized l) s z

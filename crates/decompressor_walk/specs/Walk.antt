@@ -57,6 +57,14 @@ wordTest w b =
     && eqb (getD w 4 0) 0))
     && hasCode 32 (getD w 4 0)
 
+-- place i was filled
+abbrev pub filledAt : (b : List ℕ) → (i : ℕ) → Bool
+filledAt b i = not (eqb (cell b 1 i) 0)
+
+-- what is asked of the wide numbers of place i if it was filled: a delta that has a code
+abbrev pub codedAt : (w : List ℕ) → (i : ℕ) → Bool
+codedAt w i = hasCode 32 (cell w 4 i)
+
 -- word k of the list of place i: 0 unless the count reaches past it
 abbrev pub pastAt : (w b : List ℕ) → (k i : ℕ) → Bool
 pastAt w b k i = ltb k (cell b 10 i) || eqb (cell w (5 + k) i) 0

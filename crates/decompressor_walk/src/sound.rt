@@ -1,12 +1,15 @@
 ghost use mathlib.Core.Path.{_≡_};
+ghost use mathlib.Core.Bool.{_&&_};
 ghost use Prim.Native.Nat.{_<_, _≤_};
 ghost use lib.ListN.{length};
 ghost use Rattle.planes.specs.Planes.{lent, row, every};
 ghost use Rattle.decompressor.specs.Table.{soundOf};
 ghost use Rattle.decompressor_table.specs.Layout.{tableOf};
 ghost use Rattle.decompressor_walk.specs.Walk.{byteTest, shortTest, wordTest, pastAt, listFree, unusedAt};
+ghost use Rattle.decompressor_walk.specs.Walk.{filledAt, codedAt};
 use codes::code::has_code32;
 use decompressor_table::layout::Layout;
+use planes::numbers::place_numbers;
 use settings::Settings;
 
 // An empty context was never filled, a live one was; one that was never filled holds nothing but its status.
@@ -88,6 +91,48 @@ fn words_sound(w: &[u32], b: &[u8]) -> bool
     ok
 }
 
+// Whether every place was filled.
+fn all_filled(b: &[u8]) -> bool
+    requires { ⌜ length (now b) ≡ 834 ⌝ }
+    ensures { λ r. ⌜ r ≡ every (filledAt (now (b .entry))) 64 ⌝ }
+{
+    let mut ok = true;
+    let mut i = 0;
+    while i < Settings::PLACES {
+        ok = ok & !(b[Layout::FILLED + i] == 0);
+        i += 1;
+    }
+    ok
+}
+
+fn deltas_coded(w: &[u32]) -> bool
+    requires { ⌜ length (now w) ≡ 1280 ⌝ }
+    ensures { λ r. ⌜ r ≡ every (codedAt (now (w .entry))) 64 ⌝ }
+{
+    let mut ok = true;
+    let mut i = 0;
+    while i < Settings::PLACES {
+        let coded = has_code32(w[Layout::DELTA_TIMESTAMP + i]);
+        ok = ok & coded;
+        i += 1;
+    }
+    ok
+}
+
+// Numbers of 16 and of 32 bits. Where every place was filled none of them has to be 0: one plane is walked in place of ten.
+fn wide_sound(w: &[u32], h: &[u16], b: &[u8]) -> bool
+    requires { ⌜ (length (now w) ≡ 1280) × (length (now h) ≡ 320) × (length (now b) ≡ 834) ⌝ }
+    ensures { λ r. ⌜ r ≡ (every (λ i. shortTest (row (now (h .entry)) i 0 5) (row (now (b .entry)) i 0 13)) 64
+        && every (λ i. wordTest (row (now (w .entry)) i 0 20) (row (now (b .entry)) i 0 13)) 64) ⌝ }
+{
+    if all_filled(b) {
+        return deltas_coded(w);
+    }
+    let shorts = shorts_sound(h, b);
+    let words = words_sound(w, b);
+    shorts & words
+}
+
 // Whether no place has a word in its list.
 fn no_lists(w: &[u32]) -> bool
     requires { ⌜ length (now w) ≡ 1280 ⌝ }
@@ -135,14 +180,15 @@ fn lists_sound(w: &[u32], b: &[u8]) -> bool
 }
 
 // Places from k on are not in use.
-fn unused_from(b: &[u8], k: usize) -> bool
-    requires { ⌜ (length (now b) ≡ 834) × (k ≤ 64) ⌝ }
+fn unused_from(b: &[u8], k: u8) -> bool
+    requires { ⌜ length (now b) ≡ 834 ⌝ }
     ensures { λ r. ⌜ r ≡ every (unusedAt (now (b .entry)) k) 64 ⌝ }
 {
+    let numbers = place_numbers();
     let mut ok = true;
-    let mut i = k;
+    let mut i = 0;
     while i < Settings::PLACES {
-        ok = ok & (b[Layout::STATUS + i] == 0);
+        ok = ok & ((numbers[i] < k) | (b[Layout::STATUS + i] == 0));
         i += 1;
     }
     ok
@@ -166,9 +212,8 @@ pub fn sound(w: &[u32], h: &[u16], b: &[u8]) -> bool
         return false;
     }
     let bytes = bytes_sound(b);
-    let shorts = shorts_sound(h, b);
-    let words = words_sound(w, b);
+    let wide = wide_sound(w, h, b);
     let lists = lists_sound(w, b);
-    let unused = unused_from(b, settings.contexts as usize);
-    bytes & shorts & words & lists & unused
+    let unused = unused_from(b, settings.contexts);
+    bytes & wide & lists & unused
 }

@@ -31,24 +31,50 @@ pub fn read_list(s: &[u8], at: usize, n: u8) -> Csrc
     }
 }
 
+// The fields of an RTP header that begins at a place, but for marker, SSRC and list.
+fn read_fields(s: &[u8], at: usize) -> Rtp
+    requires { ⌜ at + 12 ≤ length (now s) ⌝ }
+    ensures { λ r. ⌜ r ≡ rtpAt (now (s .entry)) at .rtp ⌝ }
+{
+    let first = split_first(s[at]);
+    let second = split_second(s[at + 1]);
+    Rtp {
+        padding: first.padding,
+        extension: first.extension,
+        payload: second.payload,
+        sequence: word_at(s, at + 2),
+        timestamp: long_at(s, at + 4),
+    }
+}
+
+fn read_marker(s: &[u8], at: usize) -> bool
+    requires { ⌜ at + 2 ≤ length (now s) ⌝ }
+    ensures { λ r. ⌜ r ≡ rtpAt (now (s .entry)) at .marker ⌝ }
+{
+    let second = split_second(s[at + 1]);
+    second.marker
+}
+
+// The CSRC list of an RTP header that begins at a place.
+pub fn read_rtp_list(s: &[u8], at: usize) -> Csrc
+    requires { ⌜ at + (12 + 4 * countAt (now s) at) ≤ length (now s) ⌝ }
+    ensures { λ r. ⌜ r ≡ rtpAt (now (s .entry)) at .csrc ⌝ }
+{
+    let first = split_first(s[at]);
+    read_list(s, at + 12, first.count)
+}
+
 // The RTP header that begins at a place.
 pub fn read_rtp(s: &[u8], at: usize) -> RtpHeader
     requires { ⌜ at + (12 + 4 * countAt (now s) at) ≤ length (now s) ⌝ }
     ensures { λ r. ⌜ r ≡ rtpAt (now (s .entry)) at ⌝ }
 {
-    let first = split_first(s[at]);
-    let second = split_second(s[at + 1]);
-    let list = read_list(s, at + 12, first.count);
+    let fields = read_fields(s, at);
+    let list = read_rtp_list(s, at);
     RtpHeader {
         ssrc: long_at(s, at + 8),
-        marker: second.marker,
-        rtp: Rtp {
-            padding: first.padding,
-            extension: first.extension,
-            payload: second.payload,
-            sequence: word_at(s, at + 2),
-            timestamp: long_at(s, at + 4),
-        },
+        marker: read_marker(s, at),
+        rtp: fields,
         csrc: list,
     }
 }
@@ -78,24 +104,31 @@ fn read_ip(p: &[u8]) -> Ip
     }
 }
 
+// The header of a packet whose list was read: without the list's loop it is straight, so that the compiler puts it into a send.
+pub fn header_with(p: &[u8], list: Csrc) -> Header
+    requires { ⌜ (40 ≤ length (now p)) × (list ≡ rtpAt (now p) 28 .csrc) ⌝ }
+    ensures { λ r. ⌜ r ≡ headerOf (now (p .entry)) ⌝ }
+{
+    let flow = read_flow(p);
+    let ip = read_ip(p);
+    let rtp = read_fields(p, 28);
+    Header {
+        flow: flow,
+        ip: ip,
+        rtp: rtp,
+        csrc: list,
+        marker: read_marker(p, 28),
+        checksum: word_at(p, 26),
+    }
+}
+
 // The header of a packet, or of a full header: no length and no IP checksum is read.
 pub fn read_header(p: &[u8]) -> Header
     requires { ⌜ sizeWith (countAt (now p) 28) ≤ length (now p) ⌝ }
     ensures { λ r. ⌜ r ≡ headerOf (now (p .entry)) ⌝ }
 {
-    let flow = read_flow(p);
-    let ip = read_ip(p);
-    let whole = read_rtp(p, 28);
-    let rtp = whole.rtp;
-    let csrc = whole.csrc;
-    Header {
-        flow: flow,
-        ip: ip,
-        rtp: rtp,
-        csrc: csrc,
-        marker: whole.marker,
-        checksum: word_at(p, 26),
-    }
+    let list = read_rtp_list(p, 28);
+    header_with(p, list)
 }
 
 // How many bytes a header has: where the rest of its packet begins.

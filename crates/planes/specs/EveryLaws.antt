@@ -58,14 +58,17 @@ every-at f (suc n) i h e = go (eqb i n) refl (every-at f n i)
     go true q ih = rw (eqb-true i n q) (and-eq-true-iff (every f n) (f n) .0 e .1)
     go false q ih = ih (omega (arith, eqb-false i n q)) (and-eq-true-iff (every f n) (f n) .0 e .0)
 
+-- tests that agree where a third is passed, at places that all pass it
+pub every-given : (u f g : ℕ → Bool) (n : ℕ) → every u n ≡ true → ((i : ℕ) → u i ≡ true → f i ≡ g i) → every f n ≡ every g n
+every-given u f g n e h = every-same f g n (λ i a. h i (every-at u n i a e))
+
+pub passed : (u z : Bool) → u ≡ true → (u || z) ≡ true
+passed u z e = rw e
+
 -- holds of every place when it holds of each
 pub every-made : (f : ℕ → Bool) (n : ℕ) → ((i : ℕ) → i < n → f i ≡ true) → every f n ≡ true
 every-made f zero h = refl
 every-made f (suc n) h = rw (every-made f n (λ i a. h i (omega arith)), h n (omega arith))
-
--- the places below k pass a test that asks nothing of them
-pub every-below : (f : ℕ → Bool) (k : ℕ) → every (λ (i : ℕ). ltb i k || f i) k ≡ true
-every-below f k = every-made (λ (i : ℕ). ltb i k || f i) k (λ i h. rw (lt-ltb i k h))
 
 ---- a list of what a function gives at places
 

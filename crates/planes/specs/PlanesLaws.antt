@@ -5,7 +5,7 @@ use mathlib.Core.Logic.{_≢_}
 use mathlib.Core.Path.{_≡_, refl, sym, ap, _∙_}
 use mathlib.Core.List.{List, [], _∷_, _++_}
 use native.Mathlib.Numerals.{add-one}
-use native.Mathlib.Nat.{add-zero}
+use native.Mathlib.Nat.{add-zero, zero-add}
 use native.Mathlib.Omega.{arith}
 use lib.ListN.{length, getD, set, take, drop, replicate, length-set, drop-of-length-le, replicate-append-replicate}
 use lib.Seq.{drop-cons, getD-set-same, getD-set-other, set-getD, take-suc-set, take-all}
@@ -95,6 +95,10 @@ pub places-at : {A : Type 0} (f : ℕ → A) (i n k : ℕ) (d : A) → k < n →
 places-at f i zero k d h = absurd (omega arith)
 places-at f i (suc n) zero d h = rw (add-zero i) refl
 places-at f i (suc n) (suc k) d h = places-at f (suc i) n k d (omega arith) ∙ ap f (omega arith)
+
+-- in a table of places' numbers, each place has its own
+pub numbers-at : (l : List ℕ) (n i : ℕ) → l ≡ places (λ (x : ℕ). x) 0 n → i < n → getD l i 0 ≡ i
+numbers-at l n i e h = ap (λ (l : List ℕ). getD l i 0) e ∙ places-at (λ (x : ℕ). x) 0 n i 0 h ∙ zero-add i
 
 pub places-same : {A : Type 0} (f g : ℕ → A) (i n : ℕ) → ((j : ℕ) → i ≤ j → j < i + n → g j ≡ f j) → places g i n ≡ places f i n
 places-same f g i zero h = refl

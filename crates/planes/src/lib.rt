@@ -3,3 +3,4 @@
 // `specs/Planes.antt` says how a plane is read and what three slices that hold a table are; `specs/PlanesLaws.antt` and
 // `specs/EveryLaws.antt` have what holds of a row that is replaced and of a walk over all places.
 pub mod clear;
+pub mod numbers;

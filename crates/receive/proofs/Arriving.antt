@@ -1,8 +1,8 @@
 -- Iarwennol. The ways of an arrival, each as the answer that it gives. Assume nothing.
--- Used by the proofs of receive_kind and receive.
+-- Used by the proofs of arrive, receive_kind and receive.
 use Prim.Native.Nat.{ℕ, _≤_, _<_}
 use mathlib.Core.Path.{_≡_}
-use mathlib.Core.Bool.{Bool, true, false}
+use mathlib.Core.Bool.{Bool, true, false, cond}
 use mathlib.Core.List.{List}
 use borrow.Author.Tests.{eq-eqb, ne-eqb, le-leb, lt-leb}
 use lib.ListN.{length}
@@ -47,3 +47,9 @@ module _ (form : OldForm) (kind : ℕ) (t : Table) (s output : List ℕ) where
       pub by-kind : lengthAllowed (length s) ≡ true → receiveKind form kind t s output ≡ receiveBy form t kind s output
       unfolding receiveBy
       by-kind l = rw (e, le-leb kind 3 h, l)
+
+---- what was read, in one of two ways
+
+pub either : {A : Type 0} (P : A → Type 0) (b : Bool) (x y : A) → P x → P y → P (cond b x y)
+either P true x y p q = p
+either P false x y p q = q

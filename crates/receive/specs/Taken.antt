@@ -7,14 +7,16 @@ use mathlib.Core.List.{List}
 use lib.ListN.{length, drop}
 use Rattle.codes.specs.Numbers.{notLive}
 use Rattle.links.specs.declared.head.Head.{Head}
-use Rattle.context.specs.Decompressor.{broke}
+use Rattle.packet.specs.Ranges.{Narrow}
+use Rattle.context.specs.Decompressor.{broke, effectOf, rebuilt}
 use Rattle.context.specs.Sound.{soundDecompressor}
 use Rattle.context.specs.declared.decompressor.DecompressorContext.{DecompressorContext}
 use Rattle.decompressor.specs.declared.table.Table.{Table}
 use Rattle.receive.specs.declared.settle.Taken.{Taken}
+use Rattle.receive.specs.declared.settle.Arrived.{Arrived}
 use Rattle.decompressor.specs.declared.answer.Outcome.{Outcome}
 use Rattle.decompressor.specs.Answer.{Result, refused, delivered, numberOf, lengthOf, said}
-use Rattle.decompressor.specs.Receive.{packetOf, fullTable, receivePlain}
+use Rattle.decompressor.specs.Receive.{packetOf, fullTable, receivePlain, settleRead}
 use Rattle.links.specs.Fh.{fhOf}
 use Rattle.decompressor.specs.Table.{contextAt, withContext}
 
@@ -31,6 +33,14 @@ placed x t i output = record {
 -- whatever the table: where it has n repeats and the context c at place i, that is what f makes of it
 pub record Takes (n : ℕ) (c : DecompressorContext) (x : Taken) (output : List ℕ) (f : Table → ℕ → Result) : Type 0 where
   pub anywhere : (t : Table) (i : ℕ) → t .settings .repeats ≡ n → contextAt t i ≡ c → placed x t i output ≡ f t i
+
+-- whatever the table and the output: where it has n repeats and the context c at place i, what f makes of the bytes s is what
+-- becomes of these fields; and where they are accepted there is a header to write
+pub record Arrives (n : ℕ) (c : DecompressorContext) (x : Arrived) (s : List ℕ) (f : Table → ℕ → List ℕ → Result) : Type 0 where
+  pub settles : (t : Table) (i : ℕ) (output : List ℕ) → t .settings .repeats ≡ n → contextAt t i ≡ c
+      → settleRead (x .place) (effectOf (x .applied)) t i (x .checksum) s output ≡ f t i output
+  pub narrow : effectOf (x .applied) .number ≡ 0 → Narrow (rebuilt (x .applied .context) (x .checksum))
+  pub within : x .place .cursor .at ≤ length s
 
 -- rule 3.1: a context that is not live is refused with 8 and left broken
 abbrev pub leftBroken : DecompressorContext → (output : List ℕ) → Table → (i : ℕ) → Result

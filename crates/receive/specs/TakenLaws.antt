@@ -2,7 +2,7 @@
 -- Used by the functions that work on such a copy.
 use Prim.Native.Nat.{ℕ, zero, suc, _+_, _≤_, _<_}
 use mathlib.Core.Path.{_≡_, refl, sym, ap, _∙_}
-use mathlib.Core.Bool.{Bool, true, false, cond, false≢true}
+use mathlib.Core.Bool.{Bool, true, false, cond, not, _&&_, false≢true}
 use mathlib.Core.List.{List, [], _∷_}
 use native.Mathlib.Omega.{arith}
 use borrow.Author.Tests.{lt-ltb, le-ltb}
@@ -21,13 +21,16 @@ use Rattle.links.specs.Whole.{wholeOf}
 use Rattle.packet.specs.Refusal as refusal
 use Rattle.packet.specs.declared.refusal.Refusal.{Refusal}
 use Rattle.packet.specs.declared.refusal.Refusal.the-variants.{TooLong, NoRoom, Disproved}
-use Rattle.context.specs.Decompressor.{broke, rebuilt, Effect, applied, appliedWhole, checksumRead}
+use Rattle.packet.specs.Ranges.{Narrow}
+use Rattle.context.specs.Decompressor.{broke, rebuilt, Effect, effectOf, applied, appliedWhole, checksumRead}
+use Rattle.context.specs.declared.decompressor.Applied.{Applied}
 use Rattle.context.specs.declared.decompressor.Status.{Status}
 use Rattle.context.specs.declared.decompressor.Status.the-variants.{Empty, Live, Broken}
 use Rattle.context.specs.declared.decompressor.DecompressorContext.{DecompressorContext}
 use Rattle.decompressor.specs.declared.answer.Outcome.the-variants.{Accepted, Refused}
 use Rattle.decompressor.specs.declared.table.Table.{Table}
 use Rattle.receive.specs.declared.settle.Taken.{Taken}
+use Rattle.receive.specs.declared.settle.Arrived.{Arrived}
 use Rattle.decompressor.specs.Answer.{Result, accepted, refused, delivered}
 use Rattle.decompressor.specs.Table.{noContext, contextAt, withContext, Sound}
 use Rattle.decompressor.specs.TableLaws.{sound-repeats, sound-contextAt}
@@ -35,7 +38,7 @@ use Rattle.decompressor.specs.Receive.{packetOf, isDisproved, rebuildTo, settle
 use Rattle.decompressor.specs.Receive.{receiveUdp, receiveRtp, receiveOn}
 use Rattle.decompressor.specs.declared.old.OldForm.{OldForm}
 use Rattle.decompressor.specs.declared.old.OldForm.the-variants as old
-use Rattle.receive.specs.Taken.{placed, Takes, leftBroken, HeadRead}
+use Rattle.receive.specs.Taken.{placed, Takes, Arrives, leftBroken, HeadRead}
 
 ---- withContext
 
@@ -153,90 +156,105 @@ notLive Empty = true
 notLive Live = false
 notLive Broken = true
 
----- receiveParts, receiveOld: the repeats and the context are those of the table
+---- Arrives: the repeats and the context are those of the table
 
-module _ (n : ℕ) (c : DecompressorContext) (x : Taken) (after s output : List ℕ) where
-  pub takes-parts : (q : ℕ) (r : ReadParts) (y : Effect) → y ≡ applied n q c (r .parts)
-      → ((m : ℕ) → Takes m c x after (λ t i. settleRead (r .place) y t i (r .parts .checksum) s output))
-      → Takes n c x after (λ t i. receiveParts r t i q s output)
-  takes-parts q r y a h = record {
-    anywhere = λ t i e f. h n .anywhere t i e f
-        ∙ ap (λ (z : Effect). settleRead (r .place) z t i (r .parts .checksum) s output) a
+module _ (n : ℕ) (c : DecompressorContext) (s : List ℕ) where
+  pub arrives-parts : (q : ℕ) (r : ReadParts) (a : Applied) → effectOf a ≡ applied n q c (r .parts)
+      → (effectOf a .number ≡ 0 → Narrow (rebuilt (a .context) (r .parts .checksum))) → r .place .cursor .at ≤ length s
+      → Arrives n c (record { place = r .place; applied = a; checksum = r .parts .checksum }) s
+      (λ t i output. receiveParts r t i q s output)
+  arrives-parts q r a y narrow within = record {
+    settles = λ t i output e f. ap (λ (z : Effect). settleRead (r .place) z t i (r .parts .checksum) s output) y
         ∙ sym (λ j. settleRead (r .place) (applied (e j) q (f j) (r .parts)) t i (r .parts .checksum) s output);
+    narrow = narrow;
+    within = within;
   }
 
-  takes-wholeParts : (q : ℕ) (r : ReadWhole) (y : Effect) → y ≡ appliedWhole n q c (r .parts) (r .header)
-      → ((m : ℕ) → Takes m c x after (λ t i. settleRead (r .place) y t i (r .parts .checksum) s output))
-      → Takes n c x after (λ t i. receiveWhole r t i q s output)
-  takes-wholeParts q r y a h = record {
-    anywhere = λ t i e f. h n .anywhere t i e f
-        ∙ ap (λ (z : Effect). settleRead (r .place) z t i (r .parts .checksum) s output) a
-        ∙ sym (λ j. settleRead (r .place) (appliedWhole (e j) q (f j) (r .parts) (r .header)) t i (r .parts .checksum) s output);
-  }
-
-  pub takes-whole : (h : Head) (r : ReadWhole) → r ≡ wholeOf s (h .place) (h .flags) (checksumRead c)
-      → (y : Effect) → y ≡ appliedWhole n (h .flags .low) c (r .parts) (r .header)
-      → ((m : ℕ) → Takes m c x after (λ t i. settleRead (r .place) y t i (r .parts .checksum) s output))
-      → Takes n c x after (λ t i. receiveOld old.Taken t i h s output)
+  pub arrives-whole : (h : Head) (r : ReadWhole) → r ≡ wholeOf s (h .place) (h .flags) (checksumRead c)
+      → (a : Applied) → effectOf a ≡ appliedWhole n (h .flags .low) c (r .parts) (r .header)
+      → (effectOf a .number ≡ 0 → Narrow (rebuilt (a .context) (r .parts .checksum))) → r .place .cursor .at ≤ length s
+      → Arrives n c (record { place = r .place; applied = a; checksum = r .parts .checksum }) s
+      (λ t i output. receiveOld old.Taken t i h s output)
   unfolding receiveOld
-  takes-whole h r w y a k = record {
-    anywhere = λ t i e f. takes-wholeParts (h .flags .low) r y a k .anywhere t i e f
+  arrives-whole h r w a y narrow within = record {
+    settles = λ t i output e f. ap (λ (z : Effect). settleRead (r .place) z t i (r .parts .checksum) s output) y
+        ∙ sym (λ j. settleRead (r .place) (appliedWhole (e j) (h .flags .low) (f j) (r .parts) (r .header)) t i
+        (r .parts .checksum) s output)
         ∙ ap (λ (y : ReadWhole). receiveWhole y t i (h .flags .low) s output) w
         ∙ sym (λ j. receiveWhole (wholeOf s (h .place) (h .flags) (checksumRead (f j))) t i (h .flags .low) s output);
+    narrow = narrow;
+    within = within;
   }
 
-  pub takes-rtp : (h : Head)
-      → Takes n c x after (λ t i. receiveParts (crOf s (h .place) (h .flags) (checksumRead c)) t i (h .flags .low) s output)
-      → Takes n c x after (λ t i. receiveRtp t i h s output)
-  takes-rtp h k = record {
-    anywhere = λ t i e f. k .anywhere t i e f
-        ∙ sym (λ j. receiveParts (crOf s (h .place) (h .flags) (checksumRead (f j))) t i (h .flags .low) s output);
-  }
+---- receiveOn: by the context's status, then by form
 
+-- b: a CU; v: with F
+on-parts : (b v : Bool) → (b && not v) ≡ false → (f : ReadParts → Result) (cu cr : ReadParts) (whole : Result)
+    → f (cond b cu cr) ≡ cond b (cond v (f cu) whole) (f cr)
+on-parts true true e f cu cr whole = refl
+on-parts true false e f cu cr whole = absurd (false≢true (sym e))
+on-parts false v e f cu cr whole = refl
+
+on-old : (b v : Bool) → (b && not v) ≡ true → (parts whole rtp : Result) → whole ≡ cond b (cond v parts whole) rtp
+on-old true true e parts whole rtp = absurd (false≢true e)
+on-old true false e parts whole rtp = refl
+on-old false v e parts whole rtp = absurd (false≢true e)
+
+module _ (n : ℕ) (c : DecompressorContext) (s : List ℕ) (x : Arrived) (form : OldForm) (kind : ℕ) (h : Head)
+    (live : c .status ≡ Live) where
   -- there is one way to take a CU without F
-  takes-form : (form : OldForm) (h : Head) → Takes n c x after (λ t i. receiveOld old.Taken t i h s output)
-      → Takes n c x after (λ t i. receiveOld form t i h s output)
-  takes-form old.Taken h k = k
+  old-form : (t : Table) (i : ℕ) (output : List ℕ) → receiveOld old.Taken t i h s output ≡ receiveOld form t i h s output
+  old-form = by-form form where
+    by-form : (form : OldForm) (t : Table) (i : ℕ) (output : List ℕ)
+        → receiveOld old.Taken t i h s output ≡ receiveOld form t i h s output
+    by-form old.Taken t i output = refl
 
-  module _ (form : OldForm) (h : Head) where
-    pub takes-udp : cuFlagsOf (h .flags) .values ≡ true
-        → Takes n c x after (λ t i. receiveParts (cuOf s (h .place) (h .flags) (checksumRead c)) t i (h .flags .low) s output)
-        → Takes n c x after (λ t i. receiveUdp form t i h s output)
-    takes-udp g k = record {
-      anywhere = λ t i e f. k .anywhere t i e f
-          ∙ sym (λ j. cond (g j) (receiveParts (cuOf s (h .place) (h .flags) (checksumRead (f j))) t i (h .flags .low) s output)
-          (receiveOld form t i h s output));
-    }
+  on-live : (t : Table) (i : ℕ) (output : List ℕ)
+      → receiveOn form (c .status) kind t i h s output
+      ≡ cond (eqb kind 2) (receiveUdp form t i h s output) (receiveRtp t i h s output)
+  on-live t i output = ap (λ (u : Status). receiveOn form u kind t i h s output) live
 
-    pub takes-old : cuFlagsOf (h .flags) .values ≡ false → Takes n c x after (λ t i. receiveOld old.Taken t i h s output)
-        → Takes n c x after (λ t i. receiveUdp form t i h s output)
-    takes-old g k = record {
-      anywhere = λ t i e f. takes-form form h k .anywhere t i e f
-          ∙ sym (λ j. cond (g j) (receiveParts (cuOf s (h .place) (h .flags) (checksumRead (contextAt t i))) t i
-          (h .flags .low) s output) (receiveOld form t i h s output));
-    }
+  pub arrives-onOld : (eqb kind 2 && not (cuFlagsOf (h .flags) .values)) ≡ true
+      → Arrives n c x s (λ t i output. receiveOld old.Taken t i h s output)
+      → Arrives n c x s (λ t i output. receiveOn form (c .status) kind t i h s output)
+  arrives-onOld g k = record {
+    settles = λ t i output e f. k .settles t i output e f ∙ old-form t i output
+        ∙ on-old (eqb kind 2) (cuFlagsOf (h .flags) .values) g
+        (receiveParts (cuOf s (h .place) (h .flags) (checksumRead (contextAt t i))) t i (h .flags .low) s output)
+        (receiveOld form t i h s output) (receiveRtp t i h s output)
+        ∙ sym (on-live t i output);
+    narrow = k .narrow;
+    within = k .within;
+  }
 
-    ---- receiveOn: by the context's status, then by type
+  pub arrives-onParts : (eqb kind 2 && not (cuFlagsOf (h .flags) .values)) ≡ false → (r : ReadParts)
+      → r ≡ cond (eqb kind 2) (cuOf s (h .place) (h .flags) (checksumRead c)) (crOf s (h .place) (h .flags) (checksumRead c))
+      → Arrives n c x s (λ t i output. receiveParts r t i (h .flags .low) s output)
+      → Arrives n c x s (λ t i output. receiveOn form (c .status) kind t i h s output)
+  arrives-onParts g r y k = record {
+    settles = λ t i output e f. k .settles t i output e f
+        ∙ ap (λ (z : ReadParts). receiveParts z t i (h .flags .low) s output) y
+        ∙ on-parts (eqb kind 2) (cuFlagsOf (h .flags) .values) g (λ z. receiveParts z t i (h .flags .low) s output)
+        (cuOf s (h .place) (h .flags) (checksumRead c)) (crOf s (h .place) (h .flags) (checksumRead c))
+        (receiveOld form t i h s output)
+        ∙ sym (λ j. cond (eqb kind 2)
+        (cond (cuFlagsOf (h .flags) .values)
+        (receiveParts (cuOf s (h .place) (h .flags) (checksumRead (f j))) t i (h .flags .low) s output)
+        (receiveOld form t i h s output))
+        (receiveParts (crOf s (h .place) (h .flags) (checksumRead (f j))) t i (h .flags .low) s output))
+        ∙ sym (on-live t i output);
+    narrow = k .narrow;
+    within = k .within;
+  }
 
-    module _ (kind : ℕ) where
-      on-live : c .status ≡ Live → (t : Table) (i : ℕ)
-          → receiveOn form (c .status) kind t i h s output
-          ≡ cond (eqb kind 2) (receiveUdp form t i h s output) (receiveRtp t i h s output)
-      on-live g t i = ap (λ (u : Status). receiveOn form u kind t i h s output) g
-
-      pub takes-liveUdp : c .status ≡ Live → eqb kind 2 ≡ true → Takes n c x after (λ t i. receiveUdp form t i h s output)
-          → Takes n c x after (λ t i. receiveOn form (c .status) kind t i h s output)
-      takes-liveUdp g b k = record {
-        anywhere = λ t i e f. k .anywhere t i e f
-            ∙ sym (on-live g t i ∙ ap (λ (y : Bool). cond y (receiveUdp form t i h s output) (receiveRtp t i h s output)) b);
-      }
-
-      pub takes-liveRtp : c .status ≡ Live → eqb kind 2 ≡ false → Takes n c x after (λ t i. receiveRtp t i h s output)
-          → Takes n c x after (λ t i. receiveOn form (c .status) kind t i h s output)
-      takes-liveRtp g b k = record {
-        anywhere = λ t i e f. k .anywhere t i e f
-            ∙ sym (on-live g t i ∙ ap (λ (y : Bool). cond y (receiveUdp form t i h s output) (receiveRtp t i h s output)) b);
-      }
+-- what was settled is what arrived
+pub takes-arrived : (n : ℕ) (c : DecompressorContext) (x : Arrived) (y : Taken) (after s output : List ℕ)
+    (f : Table → ℕ → List ℕ → Result) → Arrives n c x s f
+    → ((m : ℕ) → Takes m c y after (λ t i. settleRead (x .place) (effectOf (x .applied)) t i (x .checksum) s output))
+    → Takes n c y after (λ t i. f t i output)
+takes-arrived n c x y after s output f k h = record {
+  anywhere = λ t i e g. h n .anywhere t i e g ∙ k .settles t i output e g;
+}
 
 -- a context that is not live is left broken
 module _ (form : OldForm) (n kind : ℕ) (c : DecompressorContext) (h : Head) (s output : List ℕ) where

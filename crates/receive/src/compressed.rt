@@ -1,18 +1,23 @@
 ghost use mathlib.Core.Path.{_≡_};
-ghost use mathlib.Core.Bool.{true};
+ghost use mathlib.Core.Bool.{true, cond};
 ghost use mathlib.Core.List.{List};
 ghost use Prim.Native.Nat.{ℕ, _≤_, _<_};
+ghost use lib.Dec.{eqb};
 ghost use lib.ListN.{length};
 ghost use Rattle.packet.specs.Ranges.{PartsSound};
+ghost use Rattle.links.specs.Cu.{cuOf};
+ghost use Rattle.links.specs.Cr.{crOf};
+ghost use Rattle.context.specs.Decompressor.{checksumRead};
 ghost use Rattle.context.specs.Sound.{soundDecompressor};
 ghost use Rattle.decompressor.specs.Table.{Sound};
 ghost use Rattle.context.specs.declared.decompressor.Status.the-variants.{Live};
 ghost use Rattle.decompressor.specs.declared.old.OldForm.the-variants as oldform;
-ghost use Rattle.decompressor.specs.Receive.{receiveParts, receiveOld, receiveUdp, receiveRtp, receiveOn, receiveCompressed};
+ghost use Rattle.decompressor.specs.Receive.{receiveParts, receiveOld, receiveOn, receiveCompressed};
 ghost use Rattle.planes.specs.Planes.{lent};
 ghost use Rattle.decompressor_table.specs.Layout.{tableOf, Fits};
 ghost use Rattle.decompressor_table.specs.Calls.{Gives};
-ghost use Rattle.receive.specs.Taken.{Takes, leftBroken, HeadRead};
+ghost use Rattle.receive.specs.Taken.{Takes, Arrives, leftBroken, HeadRead};
+use crate::settle::Arrived;
 use crate::settle::Taken;
 use crate::settle::settle_read;
 use context::decompressor::DecompressorContext;
@@ -37,29 +42,39 @@ use links_read::whole::read_cu_whole;
 use packet::refusal::Refusal;
 use packet::refusal::is_accepted;
 
-// The parts of a CR, or of a CU with F, that has the link sequence q.
-fn receive_parts(
-    n: u8,
-    q: u8,
-    c: DecompressorContext,
-    x: ReadParts,
-    s: &[u8],
-    out: &mut [u8],
-) -> Taken
-    requires { ⌜ (n ≤ 14) × (q < 16) × (c .status ≡ Live) × (soundDecompressor c ≡ true) × PartsSound (x .parts)
-        × (x .place .cursor .at ≤ length (now s)) × (length (now s) ≤ 1500) ⌝ }
-    ensures { λ r. ⌜ Takes n c r (now (out .exit)) (λ t i. receiveParts x t i q (now (s .entry)) (now (out .entry))) ⌝ }
+// The fields of a CR, or of a CU with F.
+fn read_parts(kind: u32, c: DecompressorContext, h: Head, s: &[u8]) -> ReadParts
+    ensures { λ r. ⌜ r ≡ cond (eqb kind 2) (cuOf (now (s .entry)) (h .place) (h .flags) (checksumRead c))
+        (crOf (now (s .entry)) (h .place) (h .flags) (checksumRead c)) ⌝ }
+{
+    let flags = h.flags;
+    let carried = reads_checksum(c);
+    if kind == 2 {
+        return read_cu(s, h.place, flags, carried);
+    }
+    read_cr(s, h.place, flags, carried)
+}
+
+// What a context makes of the parts of a CR, or of a CU with F, that has the link sequence q.
+fn apply_parts(n: u8, q: u8, c: DecompressorContext, x: ReadParts) -> Arrived
+    requires { ⌜ (n ≤ 14) × (q < 16) × (c .status ≡ Live) × (soundDecompressor c ≡ true) × PartsSound (x .parts) ⌝ }
+    ensures { λ r. ⌜ ((s : List ℕ) → x .place .cursor .at ≤ length s
+        → Arrives n c r s (λ t i output. receiveParts x t i q s output)) ⌝ }
 {
     let parts = x.parts;
     let place = x.place;
     let applied = apply(n, q, c, parts);
-    settle_read(c, place, applied, parts.checksum, s, out)
+    Arrived {
+        place: place,
+        applied: applied,
+        checksum: parts.checksum,
+    }
 }
 
-// A CU without F, taken whole.
-fn receive_whole(n: u8, c: DecompressorContext, h: Head, s: &[u8], out: &mut [u8]) -> Taken
+// What a context makes of a CU without F, taken whole.
+fn apply_old(n: u8, c: DecompressorContext, h: Head, s: &[u8]) -> Arrived
     requires { ⌜ HeadRead n c h (now s) × (c .status ≡ Live) ⌝ }
-    ensures { λ r. ⌜ Takes n c r (now (out .exit)) (λ t i. receiveOld oldform.Taken t i h (now (s .entry)) (now (out .entry))) ⌝ }
+    ensures { λ r. ⌜ Arrives n c r (now (s .entry)) (λ t i output. receiveOld oldform.Taken t i h (now (s .entry)) output) ⌝ }
 {
     let flags = h.flags;
     let carried = reads_checksum(c);
@@ -68,40 +83,28 @@ fn receive_whole(n: u8, c: DecompressorContext, h: Head, s: &[u8], out: &mut [u8
     let header = read.header;
     let place = read.place;
     let applied = apply_whole(n, flags.low, c, parts, header);
-    settle_read(c, place, applied, parts.checksum, s, out)
+    Arrived {
+        place: place,
+        applied: applied,
+        checksum: parts.checksum,
+    }
 }
 
-fn receive_udp(
-    old: OldForm,
-    n: u8,
-    c: DecompressorContext,
-    h: Head,
-    s: &[u8],
-    out: &mut [u8],
-) -> Taken
+// A CU or CR is read and applied here, whatever its form, and settled in one place: so both become part of the call.
+fn arrive(old: OldForm, kind: u32, n: u8, c: DecompressorContext, h: Head, s: &[u8]) -> Arrived
     requires { ⌜ HeadRead n c h (now s) × (c .status ≡ Live) ⌝ }
-    ensures { λ r. ⌜ Takes n c r (now (out .exit)) (λ t i. receiveUdp old t i h (now (s .entry)) (now (out .entry))) ⌝ }
+    ensures { λ r. ⌜ Arrives n c r (now (s .entry))
+        (λ t i output. receiveOn old (c .status) kind t i h (now (s .entry)) output) ⌝ }
 {
     let bits = h.flags;
     let flags = split_flags(bits);
-    if flags.values {
-        let carried = reads_checksum(c);
-        let read = read_cu(s, h.place, bits, carried);
-        return receive_parts(n, bits.low, c, read, s, out);
+    if (kind == 2) & !flags.values {
+        return match old {
+            OldForm::Taken => apply_old(n, c, h, s),
+        };
     }
-    match old {
-        OldForm::Taken => receive_whole(n, c, h, s, out),
-    }
-}
-
-fn receive_rtp(n: u8, c: DecompressorContext, h: Head, s: &[u8], out: &mut [u8]) -> Taken
-    requires { ⌜ HeadRead n c h (now s) × (c .status ≡ Live) ⌝ }
-    ensures { λ r. ⌜ Takes n c r (now (out .exit)) (λ t i. receiveRtp t i h (now (s .entry)) (now (out .entry))) ⌝ }
-{
-    let flags = h.flags;
-    let carried = reads_checksum(c);
-    let read = read_cr(s, h.place, flags, carried);
-    receive_parts(n, flags.low, c, read, s, out)
+    let read = read_parts(kind, c, h, s);
+    apply_parts(n, bits.low, c, read)
 }
 
 // A context that is not live takes neither a CU nor a CR, and is left broken.
@@ -132,10 +135,10 @@ fn receive_on(
     match status {
         Status::Empty => refuse_not_live(c),
         Status::Live => {
-            if kind == 2 {
-                return receive_udp(old, n, c, h, s, out);
-            }
-            receive_rtp(n, c, h, s, out)
+            let arrived = arrive(old, kind, n, c, h, s);
+            let place = arrived.place;
+            let applied = arrived.applied;
+            settle_read(c, place, applied, arrived.checksum, s, out)
         }
         Status::Broken => refuse_not_live(c),
     }

@@ -26,6 +26,13 @@ pub struct Taken {
     pub context: DecompressorContext,
 }
 
+// The fields of a CU or CR: the place past them, what the context makes of them, and the UDP checksum that came.
+pub struct Arrived {
+    pub place: Place,
+    pub applied: Applied,
+    pub checksum: u16,
+}
+
 // A packet that its context accepted, g steps on. The context is moved on only where the packet could be given out, and broken
 // where the UDP checksum disproves the packet.
 pub fn rebuild_to(

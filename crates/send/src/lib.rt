@@ -1,8 +1,8 @@
 // A send: what the compressor makes of a packet.
 //
-// The table's layout is `compressor_table`'s, its soundness and the lookup of a flow's context are `compressor_walk`'s, and the
-// definition `sendOf`, which says all that a send does, is `compressor`'s. What goes out on a context is decided in `outgoing`;
-// here a packet finds its context, which is read out and stored back, and the result finds its output.
+// The table's layout is `compressor_table`'s, its soundness `compressor_walk`'s, and the lookup of a flow's context
+// `compressor_places`'s; the definition `sendOf`, which says all that a send does, is `compressor`'s. What goes out on a context is
+// decided in `outgoing`; here a packet finds its context, which is read out and stored back, and the result finds its output.
 // Read `send` first.
 ghost use mathlib.Core.Path.{_≡_};
 ghost use Rattle.compressor.specs.Send.{sendOf};
@@ -14,14 +14,16 @@ ghost use Rattle.send.specs.Plain.{GoesPlain};
 use bytes::put::put_all;
 use compressor::answer::Outcome;
 use compressor::lookup::Found;
+use compressor_places::lookup::find;
 use compressor_table::layout::Layout;
-use compressor_table::read::context_at;
+use compressor_table::read::context_with;
+use compressor_table::read::list_at;
 use compressor_table::write::put_context;
-use compressor_walk::lookup::find;
 use compressor_walk::sound::sound;
 use headers_read::form::is_compressible;
 use headers_read::read::header_size;
-use headers_read::read::read_header;
+use headers_read::read::header_with;
+use headers_read::read::read_rtp_list;
 use outgoing::link::kind_number;
 use outgoing::link::link_size;
 use outgoing::link::put_link;
@@ -56,7 +58,8 @@ fn send_on(
         (lent (now (w .exit)) (now (h .exit)) (now (b .exit))) r (now (out .exit))
         (sendWith (tableOf (lent (now (w .entry)) (now (h .entry)) (now (b .entry)))) i (now (p .entry)) (now (out .entry)) x) ⌝ }
 {
-    let context = context_at(w, h, b, i);
+    let list = list_at(w, b, i);
+    let context = context_with(w, h, b, i, list);
     let step = step_on(b[Layout::REPEATS], x, context);
     let start = header_size(x);
     let tail = &p[start..];
@@ -88,7 +91,8 @@ pub fn send(w: &mut [u32], h: &mut [u16], b: &mut [u8], p: &[u8], out: &mut [u8]
     if !is_compressible(p) {
         return send_plain(p, out);
     }
-    let header = read_header(p);
+    let list = read_rtp_list(p, 28);
+    let header = header_with(p, list);
     let flow = header.flow;
     match find(w, h, b, flow) {
         Found::At(i) => send_on(w, h, b, i, p, header, out),

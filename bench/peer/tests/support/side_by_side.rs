@@ -1,46 +1,42 @@
-//! Scripts of the oracle's generators, run by both: the oracle, with a built-in fault or none, and the peer.
+//! Runs scripts at the peer and at another program, and compares what came of every line.
 
-use crate::tables::{lay_out_compressor, lay_out_decompressor};
-use oracle::mutant::Mutant;
+use crate::script::{read, Call, Kind, KINDS};
+use crate::tables::{lay_out_compressor, lay_out_decompressor, take_compressor, take_decompressor};
 use oracle::script::Runner;
 
-/// What came of one call at the peer: its answer, the whole output, and both its tables. Calls other than sends have type 0.
+/// The two tables of a script, or those of its endpoint.
+#[derive(Clone, PartialEq, Eq)]
+pub struct Pair<C, D> {
+    pub compressor: C,
+    pub decompressor: D,
+}
+
+pub type PeerPair = Pair<peer::compressor::Table, peer::decompressor::Table>;
+
+/// Number, link type and length. Calls other than sends have type 0.
+pub type Told = (u8, u32, usize);
+
+/// The program that the peer is compared with. It has the two tables of a script, and those of its endpoint.
+pub trait Other {
+    const NAME: &'static str;
+
+    /// Makes a call, at the tables of the script or of its endpoint.
+    fn call(&mut self, at_endpoint: bool, call: &Call, output: &mut [u8]) -> Told;
+
+    /// Does with the script's tables what a line says that is no call of the peer's: a field is written by hand, a file loaded.
+    fn change(&mut self, line: &str);
+
+    /// Whether its compressor's and its decompressor's table hold what the peer's do.
+    fn same(&self, at_endpoint: bool, peer: &PeerPair) -> [bool; 2];
+}
+
+/// What came of one call at the peer: its answer, the whole output, and both its tables.
 pub struct Outcome {
     pub number: u8,
     pub link_type: u32,
     pub length: usize,
     pub output: Vec<u8>,
-    pub compressor: peer::compressor::Table,
-    pub decompressor: peer::decompressor::Table,
-}
-
-/// A call of a script, or of an endpoint in one, which then goes to one of its tables.
-#[derive(Clone, Copy, PartialEq, Eq, Debug)]
-pub enum Kind {
-    OpenCompressor,
-    OpenDecompressor,
-    Send,
-    Receive,
-    Request,
-    Report,
-}
-
-pub const KINDS: [Kind; 6] = [
-    Kind::OpenCompressor,
-    Kind::OpenDecompressor,
-    Kind::Send,
-    Kind::Receive,
-    Kind::Request,
-    Kind::Report,
-];
-
-struct Call {
-    kind: Kind,
-    /// N and K of an opening.
-    settings: (u32, u32),
-    link_type: u32,
-    input: Vec<u8>,
-    room: usize,
+    pub tables: PeerPair,
 }
 
 /// What a comparison saw.
@@ -51,6 +47,8 @@ pub struct Seen {
     pub numbers: [[usize; 13]; KINDS.len()],
     /// Accepted sends by link type.
     pub types: [usize; 4],
+    /// Lines that are no call of the peer's and changed a table.
+    pub changes: usize,
     pub differences: usize,
     /// The first of them.
     pub first: Option<String>,
@@ -59,6 +57,7 @@ pub struct Seen {
 impl Seen {
     pub fn add(&mut self, more: &Seen) {
         self.calls += more.calls;
+        self.changes += more.changes;
         self.differences += more.differences;
         let numbers = self
             .numbers
@@ -72,98 +71,65 @@ impl Seen {
             self.first.clone_from(&more.first);
         }
     }
-}
 
-/// The two tables of a script, or those of its endpoint.
-#[derive(Clone)]
-struct Pair<C, D> {
-    compressor: C,
-    decompressor: D,
-}
-
-type OraclePair = Pair<oracle::compressor::Table, oracle::decompressor::Table>;
-type PeerPair = Pair<peer::compressor::Table, peer::decompressor::Table>;
-
-fn lay_out(pair: &OraclePair) -> PeerPair {
-    Pair {
-        compressor: lay_out_compressor(&pair.compressor),
-        decompressor: lay_out_decompressor(&pair.decompressor),
+    fn differ(&mut self, what: &str, line: &str, told: impl std::fmt::Debug) {
+        self.differences += 1;
+        let shown = || format!("{what} of {line:.300}: {told:?}");
+        self.first.get_or_insert_with(shown);
     }
 }
 
-/// Runs lines at both, up to so many differences. `tamper` is told the call's number and may change what the peer made of it
-/// before this is compared, to show that it is noticed.
+/// Runs lines at both, up to so many differences. `tamper` is told the call's number and may change what the peer made of it before
+/// this is compared, to show that it is noticed. The peer goes on with its own tables, so a table that differs is counted again
+/// with each later line.
 pub fn compare(
+    other: &mut impl Other,
     lines: impl Iterator<Item = String>,
-    mutant: Mutant,
     most_differences: usize,
     mut tamper: impl FnMut(usize, &mut Outcome),
 ) -> Seen {
     let mut seen = Seen::default();
-    let mut runner = Runner::default();
-    let unopened = Pair {
-        compressor: runner.compressor.clone(),
-        decompressor: runner.decompressor.clone(),
-    };
     // Tables of the script, and of its endpoint.
-    let mut peers = [lay_out(&unopened), lay_out(&unopened)];
+    let unopened = Pair {
+        compressor: peer::compressor::Table::unopened(),
+        decompressor: peer::decompressor::Table::unopened(),
+    };
+    let mut peers = [unopened.clone(), unopened];
     for line in lines {
         let Some((at_endpoint, calls)) = read(&line) else {
-            // A field written by hand, a load, or nothing that a table takes part in.
-            runner.answer(&line, &mut String::new());
-            let tables = Pair {
-                compressor: runner.compressor.clone(),
-                decompressor: runner.decompressor.clone(),
-            };
-            peers[0] = lay_out(&tables);
+            let changed = changed(&line, &peers[0]);
+            other.change(&line);
+            seen.changes += usize::from(changed != peers[0]);
+            peers[0] = changed;
+            if let Some(what) = table_differs(other.same(false, &peers[0])) {
+                seen.differ(what, &line, ());
+            }
+            if seen.differences >= most_differences {
+                return seen;
+            }
             continue;
         };
         for call in calls {
-            let (compressor, decompressor) = if at_endpoint {
-                (
-                    &mut runner.endpoint.compressor,
-                    &mut runner.endpoint.decompressor,
-                )
-            } else {
-                (&mut runner.compressor, &mut runner.decompressor)
-            };
             let pair = &mut peers[usize::from(at_endpoint)];
+            // The bytes of an output that are not written have to be different ones.
             let mut output: Vec<u8> = (0..call.room)
                 .map(|i| (i * 11 + seen.calls) as u8)
                 .collect();
             let mut outcome = at_peer(&call, pair, output.clone());
-            let (number, link_type, length) =
-                at_oracle(mutant, &call, compressor, decompressor, &mut output);
+            let (number, link_type, length) = other.call(at_endpoint, &call, &mut output);
             tamper(seen.calls, &mut outcome);
 
-            let wanted = lay_out(&Pair {
-                compressor: compressor.clone(),
-                decompressor: decompressor.clone(),
-            });
-            let differs = if (outcome.number, outcome.link_type, outcome.length)
-                != (number, link_type, length)
-            {
+            let told = (outcome.number, outcome.link_type, outcome.length);
+            let differs = if told != (number, link_type, length) {
                 Some("answer")
             } else if outcome.output != output {
                 Some("output")
-            } else if outcome.compressor != wanted.compressor {
-                Some("compressor's table")
-            } else if outcome.decompressor != wanted.decompressor {
-                Some("decompressor's table")
             } else {
-                None
+                table_differs(other.same(at_endpoint, &outcome.tables))
             };
             if let Some(what) = differs {
-                seen.differences += 1;
-                let told = (outcome.number, outcome.link_type, outcome.length);
-                let shown = || {
-                    format!(
-                        "{what} of {line:.300}: {told:?} and {:?}",
-                        (number, link_type, length)
-                    )
-                };
-                seen.first.get_or_insert_with(shown);
-                if seen.differences == most_differences {
+                seen.differ(what, &line, (told, (number, link_type, length)));
+                if seen.differences >= most_differences {
                     return seen;
                 }
             }
@@ -172,137 +138,64 @@ pub fn compare(
             if call.kind == Kind::Send && number == 0 {
                 seen.types[link_type as usize] += 1;
             }
-            // So that a difference is counted once.
-            *pair = wanted;
         }
     }
     seen
 }
 
-fn at_peer(call: &Call, pair: &PeerPair, mut output: Vec<u8>) -> Outcome {
+fn table_differs([compressor, decompressor]: [bool; 2]) -> Option<&'static str> {
+    if !compressor {
+        Some("compressor's table")
+    } else if !decompressor {
+        Some("decompressor's table")
+    } else {
+        None
+    }
+}
+
+fn at_peer(call: &Call, pair: &mut PeerPair, mut output: Vec<u8>) -> Outcome {
     let PeerPair {
-        mut compressor,
-        mut decompressor,
-    } = pair.clone();
+        compressor,
+        decompressor,
+    } = pair;
     let (n, k) = call.settings;
     let (number, link_type, length) = match call.kind {
-        Kind::OpenCompressor => of_other(peer::compressor::open(&mut compressor, n, k)),
-        Kind::OpenDecompressor => of_other(peer::decompressor::open(&mut decompressor, n, k)),
+        Kind::OpenCompressor => of_other(peer::compressor::open(compressor, n, k)),
+        Kind::OpenDecompressor => of_other(peer::decompressor::open(decompressor, n, k)),
         Kind::Send => {
-            let answer = peer::compressor::send(&mut compressor, &call.input, &mut output);
+            let answer = peer::compressor::send(compressor, &call.input, &mut output);
             (answer.number, answer.link_type, answer.length)
         }
         Kind::Receive => of_other(peer::decompressor::receive(
-            &mut decompressor,
+            decompressor,
             call.link_type,
             &call.input,
             &mut output,
         )),
-        Kind::Request => of_other(peer::compressor::request(&mut compressor, &call.input)),
-        Kind::Report => of_other(peer::decompressor::report(&decompressor, &mut output)),
+        Kind::Request => of_other(peer::compressor::request(compressor, &call.input)),
+        Kind::Report => of_other(peer::decompressor::report(decompressor, &mut output)),
     };
     Outcome {
         number,
         link_type,
         length,
         output,
-        compressor,
-        decompressor,
+        tables: pair.clone(),
     }
 }
 
-fn of_other(answer: peer::Answer) -> (u8, u32, usize) {
+fn of_other(answer: peer::Answer) -> Told {
     (answer.number, 0, answer.length)
 }
 
-fn at_oracle(
-    mutant: Mutant,
-    call: &Call,
-    compressor: &mut oracle::compressor::Table,
-    decompressor: &mut oracle::decompressor::Table,
-    output: &mut [u8],
-) -> (u8, u32, usize) {
-    use oracle::{compressor as c, decompressor as d};
-    let (n, k) = call.settings;
-    let answer = match call.kind {
-        Kind::OpenCompressor => c::open(compressor, n, k),
-        Kind::OpenDecompressor => d::open(decompressor, n, k),
-        Kind::Send => {
-            let answer = c::send_with(mutant, compressor, &call.input, output);
-            return (answer.number, answer.link_type, answer.length);
-        }
-        Kind::Receive => d::receive_with(mutant, decompressor, call.link_type, &call.input, output),
-        Kind::Request => c::request_with(mutant, compressor, &call.input),
-        Kind::Report => d::report_with(mutant, decompressor, output),
-    };
-    (answer.number, 0, answer.length)
-}
-
-/// The calls of a line, and whether they are an endpoint's; none for a line that is no call of a table.
-fn read(line: &str) -> Option<(bool, Vec<Call>)> {
-    let words: Vec<&str> = line.split(' ').collect();
-    let calls = match *words.as_slice() {
-        ["os", n, k] => vec![opening(Kind::OpenCompressor, n, k)?],
-        ["or", n, k] => vec![opening(Kind::OpenDecompressor, n, k)?],
-        ["bo", n, k] => vec![
-            opening(Kind::OpenCompressor, n, k)?,
-            opening(Kind::OpenDecompressor, n, k)?,
-        ],
-        ["s" | "bw", packet, room] => vec![call(Kind::Send, "0", packet, room)?],
-        // From the radio a context state is a request.
-        ["br", "4", state, room] => vec![call(Kind::Request, "0", state, room)?],
-        ["r" | "br", link_type, packet, room] => {
-            vec![call(Kind::Receive, link_type, packet, room)?]
-        }
-        ["q", state] => vec![call(Kind::Request, "0", state, "0")?],
-        ["p" | "bp", room] => vec![call(Kind::Report, "0", "-", room)?],
-        _ => return None,
-    };
-    Some((words[0].starts_with('b'), calls))
-}
-
-fn opening(kind: Kind, n: &str, k: &str) -> Option<Call> {
-    Some(Call {
-        settings: (number(n)?, number(k)?),
-        ..call(kind, "0", "-", "0")?
-    })
-}
-
-fn call(kind: Kind, link_type: &str, input: &str, room: &str) -> Option<Call> {
-    let room = number(room).filter(|&room| room <= 4096)? as usize;
-    Some(Call {
-        kind,
-        settings: (0, 0),
-        link_type: number(link_type)?,
-        input: bytes(input)?,
-        room,
-    })
-}
-
-fn number(word: &str) -> Option<u32> {
-    word.bytes()
-        .all(|byte| byte.is_ascii_digit())
-        .then(|| word.parse().ok())?
-}
-
-fn bytes(word: &str) -> Option<Vec<u8>> {
-    if word == "-" {
-        return Some(Vec::new());
-    }
-    let (pairs, odd) = word.as_bytes().as_chunks::<2>();
-    if pairs.is_empty() || !odd.is_empty() || pairs.len() > 4096 {
-        return None;
-    }
-    pairs
-        .iter()
-        .map(|[high, low]| Some(digit(*high)? << 4 | digit(*low)?))
-        .collect()
-}
-
-fn digit(byte: u8) -> Option<u8> {
-    match byte {
-        b'0'..=b'9' => Some(byte - b'0'),
-        b'a'..=b'f' => Some(byte - b'a' + 10),
-        _ => None,
+/// The peer's tables after a line that it has no call for. The oracle's words for fields and its loads serve the peer too.
+pub fn changed(line: &str, pair: &PeerPair) -> PeerPair {
+    let mut runner = Runner::default();
+    runner.compressor = take_compressor(&pair.compressor);
+    runner.decompressor = take_decompressor(&pair.decompressor);
+    runner.answer(line, &mut String::new());
+    Pair {
+        compressor: lay_out_compressor(&runner.compressor),
+        decompressor: lay_out_decompressor(&runner.decompressor),
     }
 }

@@ -22,14 +22,6 @@ use Rattle.compressor_table.specs.CallsLaws.{gives-kept, gives-by}
 use Rattle.send.proofs.Ways.{way-unsound, way-length, way-plain, way-nowhere, way-at, way-on}
 use Rattle.send.proofs.send.Statement.{statement}
 use Rattle.send.proofs.send.Tie as tie
-use Rattle.send.proofs.send.Reads as reads
-use Rattle.send.proofs.send.Lts as lts
-use Rattle.compressor_walk.proofs.lookup.find.Reads as find-reads
-use Rattle.compressor_walk.proofs.sound.sound.Reads as sound-reads
-use Rattle.headers_read.proofs.form.is_compressible.Reads as is-compressible-reads
-use Rattle.headers_read.proofs.read.read_header.Reads as read-header-reads
-use Rattle.send.proofs.send_on.Reads as send-on-reads
-use Rattle.send.proofs.send_plain.Reads as send-plain-reads
 
 abbrev handed : tie.Start → Lent
 handed s = lent (now (s .args .w)) (now (s .args .h)) (now (s .args .b))
@@ -51,7 +43,8 @@ same-length-3 c = search needs
 
 returns : tie.Need-returns
 returns c =
-    let s = (c .before .before .before .before .before .before .before .before .before .before) in
+    let b10 = c .before .before .before .before .before .before .before .before .before .before in
+    let s = b10 in
     let a = s .args in
     gives-kept (handed s) _ (a .out .now) (sendOf (held s) (a .p .now) (a .out .now))
     (way-unsound (held s) (a .p .now) (a .out .now) (sym (c .before .sound .ensures) ∙ not-true _ (c .if1 .taken)))
@@ -67,7 +60,8 @@ same-length-6 c = search needs
 
 returns-2 : tie.Need-returns-2
 returns-2 c =
-    let s = (c .before .before .before .before .before .before .before .before .before .before .before) in
+    let b11 = c .before .before .before .before .before .before .before .before .before .before .before in
+    let s = b11 in
     let a = s .args in
     gives-kept (handed s) _ (a .out .now) (sendOf (held s) (a .p .now) (a .out .now))
     (way-length (held s) (a .p .now) (a .out .now) (sym (c .before .before .sound .ensures) ∙ not-false _ (c .before .if1 .left))
@@ -93,32 +87,45 @@ same-length-10 c = search needs
 
 returns-3 : tie.Need-returns-3
 returns-3 c =
-    let s = (c .before .before .before .before .before .before .before .before .before .before .before .before .before .before
-    .before .before .before) in
+    let b4 = c .before .before .before .before in
+    let b5 = b4 .before in
+    let b6 = b5 .before in
+    let b7 = b6 .before in
+    let b8 = b7 .before in
+    let b17 = b8 .before .before .before .before .before .before .before .before .before in
+    let s = b17 in
     let a = s .args in
     gives-kept (handed s) (c .before .before .send-plain .result) _ (sendOf (held s) (a .p .now) (a .out .now))
     (c .before .before .send-plain .ensures (held s)
-    ∙ way-plain (held s) (a .p .now) (a .out .now) (sym (c .before .before .before .before .before .before .before .before .sound
-    .ensures) ∙ not-false _ (c .before .before .before .before .before .before .before .if1 .left)) (not-false (lengthAllowed
-    (length (a .p .now))) (c .before .before .before .before .before .before .if2 .left))
-    (sym (c .before .before .before .before .before .is-compressible .ensures) ∙ not-true _ (c .before .before .before .before
-    .if3 .taken)))
+    ∙ way-plain (held s) (a .p .now) (a .out .now) (sym (b8 .sound .ensures) ∙ not-false _ (b7 .if1 .left)) (not-false
+    (lengthAllowed
+    (length (a .p .now))) (b6 .if2 .left))
+    (sym (b5 .is-compressible .ensures) ∙ not-true _ (b4 .if3 .taken)))
 
-read-header-requires : tie.Need-read-header-requires
-read-header-requires c κs =
-    let k = compressible-true (c .before .before .before .before .before .before .before .before .before .before .before .before
-    .before .args .p .now) (sym (c .before .is-compressible .ensures) ∙ not-false _ (c .if3 .left)) in
+read-rtp-list-requires : tie.Need-read-rtp-list-requires
+read-rtp-list-requires c κs =
+    let b13 = c .before .before .before .before .before .before .before .before .before .before .before .before .before in
+    let k = compressible-true (b13 .args .p .now) (sym (c .before .is-compressible .ensures)
+    ∙ not-false _ (c .if3 .left)) in
     omega (arith, k .enough, k .list)
+
+header-with-requires : tie.Need-header-with-requires
+header-with-requires c κs =
+    let b14 = c .before .before .before .before .before .before .before .before .before .before .before .before .before .before in
+    let k = compressible-true (b14 .args .p .now) (sym (c .before .before .is-compressible .ensures)
+    ∙ not-false _ (c .before .if3 .left)) in
+    (omega (arith, k .enough, k .list), c .read-rtp-list .ensures)
 
 find-requires : tie.Need-find-requires
 find-requires c κs =
-    let s = (c .before .before .before .before .before .before .before .before .before .before .before .before .before .before
-    .before .before .before .before) in (
-      sound-fits (handed s) (sym (c .before .before .before .before .before .before .before .before .before .sound .ensures) ∙
-          not-false _ (c .before .before .before .before .before .before .before .before .if1 .left)),
+    let b9 = c .before .before .before .before .before .before .before .before .before in
+    let b10 = b9 .before in
+    let b19 = b10 .before .before .before .before .before .before .before .before .before in
+    let s = b19 in (
+      sound-fits (handed s) (sym (b10 .sound .ensures) ∙
+          not-false _ (b9 .if1 .left)),
       sound-most (held s)
-          (soundOf-true (held s) (sym (c .before .before .before .before .before .before .before .before .before .sound
-          .ensures) ∙ not-false _ (c .before .before .before .before .before .before .before .before .if1 .left))),
+          (soundOf-true (held s) (sym (b10 .sound .ensures) ∙ not-false _ (b9 .if1 .left))),
     )
 
 enum-known-i : tie.Need-enum-known-i
@@ -126,36 +133,31 @@ enum-known-i c = search needs
 
 send-on-requires : tie.Need-send-on-requires
 send-on-requires c κs =
-    let s = (c .before .before .before .before .before .before .before .before .before .before .before .before .before .before
-    .before .before .before .before .before .before .before .before .before .before .before .before) in
+    let b5 = c .before .before .before .before .before in
+    let b7 = b5 .before .before in
+    let b12 = b7 .before .before .before .before .before in
+    let b14 = b12 .before .before in
+    let b15 = b14 .before in
+    let b16 = b15 .before in
+    let b17 = b16 .before in
+    let b18 = b17 .before in
+    let b23 = b18 .before .before .before .before .before in
+    let b27 = b23 .before .before .before .before in
+    let s = b27 in
     let a = s .args in (
-      sound-fits (handed s) (sym (c .before .before .before .before .before .before .before .before .before .before .before
-          .before .before .before .before .before .before .sound .ensures) ∙ not-false _ (c .before .before .before .before
-          .before .before .before .before .before .before .before .before .before .before .before .before .if1 .left)),
-      rw (c .before .before .before .before .before .before .before .before .before .before .before .before .read-header .ensures)
-          (canSend-on (held s) (a .p .now) (c .before .before .before .before .before .i .given .0 .0) (length-tableOf (handed s)
-          (sound-fits (handed s) (sym (c .before .before .before .before .before .before .before .before .before .before
-          .before .before .before .before .before .before .before .sound .ensures) ∙ not-false _ (c .before .before
-          .before .before .before .before .before .before .before .before .before .before .before .before .before
-          .before .if1 .left))))
+      sound-fits (handed s) (sym (b18 .sound .ensures) ∙ not-false _ (b17 .if1 .left)),
+      rw (b12 .header-with .ensures)
+          (canSend-on (held s) (a .p .now) (b5 .i .given .0 .0) (length-tableOf (handed s)
+          (sound-fits (handed s) (sym (b18 .sound .ensures) ∙ not-false _ (b17 .if1 .left))))
           (allBytes-elements (a .p .now) (λ j. omega (
             arith,
-            c .before .before .before .before .before .before .before .before
-                .before .before .before .before .before .before .before .before .before .before .before .before .before .before
-                .shared-slice-known .given j,
+            b23 .shared-slice-known .given j,
           )))
-          (way-on (held s) (a .p .now) (a .out .now) (sym (c .before .before .before .before .before .before .before .before
-          .before .before .before .before .before .before .before .before .before .sound .ensures) ∙ not-false _ (c .before
-          .before .before .before .before .before .before .before .before .before .before .before .before .before .before
-          .before .if1 .left)) (not-false (lengthAllowed (length (a .p .now))) (c .before .before .before .before
-          .before .before .before .before .before .before .before .before .before .before .before .if2 .left))
-          (sym (c .before .before .before .before .before .before .before .before .before .before .before
-          .before .before .before .is-compressible .ensures) ∙ not-false _ (c .before .before .before
-          .before .before .before .before .before .before .before .before .before .before .if3 .left))
-          (c .before .before .before .before .before .i .given .0 .0)
-          (sym (rw (c .before .before .before .before .before .before .before .before .before .before .before .before .read-header
-          .ensures) at (c .before .before .before .before .before .before .before .find .ensures)) ∙ ap placeIn (c .before
-          .before .before .before .before .i .given .1)))),
+          (way-on (held s) (a .p .now) (a .out .now) (sym (b18 .sound .ensures) ∙ not-false _ (b17 .if1 .left)) (not-false
+          (lengthAllowed (length (a .p .now))) (b16 .if2 .left))
+          (sym (b15 .is-compressible .ensures) ∙ not-false _ (b14 .if3 .left))
+          (b5 .i .given .0 .0)
+          (sym (rw (b12 .header-with .ensures) at (b7 .find .ensures)) ∙ ap placeIn (b5 .i .given .1)))),
     )
 
 enum-told : tie.Need-enum-told
@@ -178,40 +180,29 @@ same-length-14 c = search needs
 
 returns-4 : tie.Need-returns-4
 returns-4 c =
-    let s = (c .before .before .before .before .before .before .before .before .before .before .before .before .before .before
-    .before .before .before .before .before .before .before .before .before .before .before .before .before .before .before
-    .before .before .before .before .before .before) in
+    let b8 = c .before .before .before .before .before .before .before .before in
+    let b14 = b8 .before .before .before .before .before .before in
+    let b16 = b14 .before .before in
+    let b21 = b16 .before .before .before .before .before in
+    let b23 = b21 .before .before in
+    let b24 = b23 .before in
+    let b25 = b24 .before in
+    let b26 = b25 .before in
+    let b27 = b26 .before in
+    let b36 = b27 .before .before .before .before .before .before .before .before .before in
+    let s = b36 in
     let a = s .args in
-    gives-by (handed s) _ (c .before .before .before .before .before .before .before .before .send-on .result) _
-    (sendWith (held s) (c .before .before .before .before .before .before .before .before .before .before .before .before .before
-    .before .i .given .0 .0) (a .p .now) (a .out .now) (c .before .before .before .before .before .before .before .before
-    .before .before .before .before .before .before .before .before .before .before .before .before .before .read-header
-    .result))
+    gives-by (handed s) _ (b8 .send-on .result) _
+    (sendWith (held s) (b14 .i .given .0 .0) (a .p .now) (a .out .now) (b21 .header-with .result))
     (sendOf (held s) (a .p .now) (a .out .now))
-    (ap (λ (x : Header). sendWith (held s) (c .before .before .before .before .before .before .before .before .before .before
-    .before .before .before .before .i .given .0 .0) (a .p .now) (a .out .now) x)
-    (c .before .before .before .before .before .before .before .before .before .before .before .before .before .before .before
-    .before .before .before .before .before .before .read-header .ensures)
-    ∙ way-at (held s) (a .p .now) (a .out .now) (sym (c .before .before .before .before .before .before .before .before .before
-    .before .before .before .before .before .before .before .before .before .before .before .before .before .before .before
-    .before .before .sound .ensures) ∙ not-false _ (c .before .before .before .before .before .before .before .before
-    .before .before .before .before .before .before .before .before .before .before .before .before .before .before
-    .before .before .before .if1 .left)) (not-false (lengthAllowed (length (a .p .now))) (c .before .before
-    .before .before .before .before .before .before .before .before .before .before .before .before .before
-    .before .before .before .before .before .before .before .before .before .if2 .left)) (sym (c .before
-    .before .before .before .before .before .before .before .before .before .before .before .before
-    .before .before .before .before .before .before .before .before .before .before
-    .is-compressible .ensures) ∙ not-false _ (c .before .before .before .before .before
-    .before .before .before .before .before .before .before .before .before .before
-    .before .before .before .before .before .before .before .if3 .left)) (c .before
-    .before .before .before .before .before .before .before .before .before
-    .before .before .before .before .i .given .0 .0)
-    (sym (rw (c .before .before .before .before .before .before .before .before .before .before .before .before .before .before
-    .before .before .before .before .before .before .before .read-header .ensures) at (c .before .before .before .before
-    .before .before .before .before .before .before .before .before .before .before .before .before .find .ensures)) ∙ ap
-    placeIn (c .before .before .before .before .before .before .before .before .before .before .before .before .before
-    .before .i .given .1)))
-    (c .before .before .before .before .before .before .before .before .send-on .ensures)
+    (ap (λ (x : Header). sendWith (held s) (b14 .i .given .0 .0) (a .p .now) (a .out .now) x)
+    (b21 .header-with .ensures)
+    ∙ way-at (held s) (a .p .now) (a .out .now) (sym (b27 .sound .ensures) ∙ not-false _ (b26 .if1 .left)) (not-false
+    (lengthAllowed (length (a .p .now))) (b25 .if2 .left)) (sym (b24 .is-compressible .ensures) ∙ not-false _ (b23 .if3 .left))
+    (b14 .i .given .0 .0)
+    (sym (rw (b21 .header-with .ensures) at (b16 .find .ensures)) ∙ ap
+    placeIn (b14 .i .given .1)))
+    (b8 .send-on .ensures)
 
 same-length-15 : tie.Need-same-length-15
 same-length-15 c = search needs
@@ -227,22 +218,24 @@ same-length-18 c = search needs
 
 returns-5 : tie.Need-returns-5
 returns-5 c =
-    let s = (c .before .before .before .before .before .before .before .before .before .before .before .before .before .before
-    .before .before .before .before .before .before .before .before .before .before .before) in
+    let b4 = c .before .before .before .before in
+    let b6 = b4 .before .before in
+    let b11 = b6 .before .before .before .before .before in
+    let b13 = b11 .before .before in
+    let b14 = b13 .before in
+    let b15 = b14 .before in
+    let b16 = b15 .before in
+    let b17 = b16 .before in
+    let b26 = b17 .before .before .before .before .before .before .before .before .before in
+    let s = b26 in
     let a = s .args in
     gives-kept (handed s) (c .before .before .send-plain2 .result) _ (sendOf (held s) (a .p .now) (a .out .now))
     (c .before .before .send-plain2 .ensures (held s)
-    ∙ way-nowhere (held s) (a .p .now) (a .out .now) (sym (c .before .before .before .before .before .before .before .before
-    .before .before .before .before .before .before .before .before .sound .ensures) ∙ not-false _ (c .before .before .before
-    .before .before .before .before .before .before .before .before .before .before .before .before .if1 .left))
-    (not-false (lengthAllowed (length (a .p .now))) (c .before .before .before .before .before .before .before .before
-    .before .before .before .before .before .before .if2 .left)) (sym (c .before .before .before .before .before
-    .before .before .before .before .before .before .before .before .is-compressible .ensures) ∙ not-false _
-    (c .before .before .before .before .before .before .before .before .before .before .before .before
-    .if3 .left))
-    (sym (rw (c .before .before .before .before .before .before .before .before .before .before .before .read-header .ensures) at
-    (c .before .before .before .before .before .before .find .ensures)) ∙ ap placeIn (c .before .before .before .before
-    .enum-told .given .1)))
+    ∙ way-nowhere (held s) (a .p .now) (a .out .now) (sym (b17 .sound .ensures) ∙ not-false _ (b16 .if1 .left))
+    (not-false (lengthAllowed (length (a .p .now))) (b15 .if2 .left)) (sym (b14 .is-compressible .ensures) ∙ not-false _
+    (b13 .if3 .left))
+    (sym (rw (b11 .header-with .ensures) at
+    (b6 .find .ensures)) ∙ ap placeIn (b4 .enum-told .given .1)))
 
 pub send-spec : {M : Type 1} → statement M
 send-spec =
@@ -264,7 +257,8 @@ send-spec =
     same-length-9
     same-length-10
     returns-3
-    read-header-requires
+    read-rtp-list-requires
+    header-with-requires
     find-requires
     enum-known-i
     send-on-requires

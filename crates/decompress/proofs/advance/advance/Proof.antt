@@ -9,17 +9,17 @@ move-ip-requires c κs = search needs
 move-rtp-requires : tie.Need-move-rtp-requires
 move-rtp-requires c κs = search needs
 
-replace-list-requires : tie.Need-replace-list-requires
-replace-list-requires c κs = search needs
-
 hold-deltas-requires : tie.Need-hold-deltas-requires
 hold-deltas-requires c κs = search needs
+
+take-list-requires : tie.Need-take-list-requires
+take-list-requires c κs = search needs
 
 returns : tie.Need-returns
 unfolding advanced
 returns c = rw (
-  c .before .hold-deltas .ensures,
-  c .before .before .replace-list .ensures,
+  c .take-list .ensures,
+  c .before .before .hold-deltas .ensures,
   c .before .before .before .move-rtp .ensures,
   c .before .before .before .before .move-ip .ensures,
 )
@@ -27,9 +27,4 @@ returns c = rw (
 pub advance-spec : {M : Type 1} → statement M
 advance-spec =
     tie.close
-    (tie.spec
-    move-ip-requires
-    move-rtp-requires
-    replace-list-requires
-    hold-deltas-requires
-    returns)
+    (tie.spec move-ip-requires move-rtp-requires hold-deltas-requires take-list-requires returns)

@@ -5,7 +5,6 @@ use borrow.Author.Needs.{needs}
 use borrow.Author.Tests.{not-true, not-false}
 use denote.Ref.{now}
 use lib.ListN.{getD}
-use Rattle.settings.specs.SettingsLaws.{range-most}
 use Rattle.planes.specs.Planes.{Lent, lent}
 use Rattle.decompressor_table.specs.Layout.{sized}
 use Rattle.decompressor_table.specs.LayoutLaws.{Sizes, sized-true}
@@ -16,9 +15,8 @@ use Rattle.decompressor_walk.proofs.sound.sound.Reads as reads
 use Rattle.decompressor_walk.proofs.sound.sound.Lts as lts
 use Rattle.decompressor_walk.proofs.sound.bytes_sound.Reads as bytes-sound-reads
 use Rattle.decompressor_walk.proofs.sound.lists_sound.Reads as lists-sound-reads
-use Rattle.decompressor_walk.proofs.sound.shorts_sound.Reads as shorts-sound-reads
 use Rattle.decompressor_walk.proofs.sound.unused_from.Reads as unused-from-reads
-use Rattle.decompressor_walk.proofs.sound.words_sound.Reads as words-sound-reads
+use Rattle.decompressor_walk.proofs.sound.wide_sound.Reads as wide-sound-reads
 use Rattle.settings.proofs.Settings.is_sound.Reads as is-sound-reads
 
 abbrev handed : tie.Start → Lent
@@ -41,11 +39,11 @@ ranged c = sym (c .before .is-sound .ensures) ∙ not-false _ (c .if2 .left)
 returns : tie.Need-returns
 returns c = let l = handed (c .before .before .before .before) in unsound-sized l (not-true (sized l) (c .if1 .taken))
 
-shared-slice-read-t19 : tie.Need-shared-slice-read-t19
-shared-slice-read-t19 c = omega (arith, sizes (c .before) .bytes)
+shared-slice-read-t18 : tie.Need-shared-slice-read-t18
+shared-slice-read-t18 c = omega (arith, sizes (c .before) .bytes)
 
-shared-slice-read-t21 : tie.Need-shared-slice-read-t21
-shared-slice-read-t21 c = omega (arith, sizes (c .before .before) .bytes)
+shared-slice-read-t20 : tie.Need-shared-slice-read-t20
+shared-slice-read-t20 c = omega (arith, sizes (c .before .before) .bytes)
 
 is-sound-requires : tie.Need-is-sound-requires
 is-sound-requires c κs = search needs
@@ -58,35 +56,23 @@ returns-2 c =
 bytes-sound-requires : tie.Need-bytes-sound-requires
 bytes-sound-requires c κs = sizes (c .before .before .before .before) .bytes
 
-shorts-sound-requires : tie.Need-shorts-sound-requires
-shorts-sound-requires c κs = let z = sizes (c .before .before .before .before .before) in (z .shorts, z .bytes)
-
-words-sound-requires : tie.Need-words-sound-requires
-words-sound-requires c κs = let z = sizes (c .before .before .before .before .before .before) in (z .words, z .bytes)
+wide-sound-requires : tie.Need-wide-sound-requires
+wide-sound-requires c κs = let z = sizes (c .before .before .before .before .before) in (z .words, z .shorts, z .bytes)
 
 lists-sound-requires : tie.Need-lists-sound-requires
-lists-sound-requires c κs = let z = sizes (c .before .before .before .before .before .before .before) in (z .words, z .bytes)
-
-cast-unused-from : tie.Need-cast-unused-from
-cast-unused-from c = search needs
+lists-sound-requires c κs = let z = sizes (c .before .before .before .before .before .before) in (z .words, z .bytes)
 
 unused-from-requires : tie.Need-unused-from-requires
-unused-from-requires c κs =
-    let e = c .before .before .before .before .before in
-    let l = first (e .before .before .before .before) in (
-      sizes (e .before .before .before .before) .bytes,
-      range-most (getD (l .bytes) 832 0) (getD (l .bytes) 833 0) (ranged e),
-    )
+unused-from-requires c κs = sizes (c .before .before .before .before .before .before .before) .bytes
 
 returns-3 : tie.Need-returns-3
 returns-3 c =
-    let e = c .before .before .before .before .before .before in
+    let e = c .before .before .before .before in
     let d = e .before .before .before .before in
-    sound-walk (first d) _ _ _ _ _ (fit d) (ranged e)
-    (c .before .before .before .before .before .bytes-sound .ensures)
-    (c .before .before .before .before .shorts-sound .ensures)
-    (c .before .before .before .words-sound .ensures)
-    (c .before .before .lists-sound .ensures)
+    sound-walk (first d) _ _ _ _ (fit d) (ranged e)
+    (c .before .before .before .bytes-sound .ensures)
+    (c .before .before .wide-sound .ensures)
+    (c .before .lists-sound .ensures)
     (c .unused-from .ensures)
 
 pub sound-spec : {M : Type 1} → statement M
@@ -94,14 +80,12 @@ sound-spec =
     tie.close
     (tie.spec
     returns
-    shared-slice-read-t19
-    shared-slice-read-t21
+    shared-slice-read-t18
+    shared-slice-read-t20
     is-sound-requires
     returns-2
     bytes-sound-requires
-    shorts-sound-requires
-    words-sound-requires
+    wide-sound-requires
     lists-sound-requires
-    cast-unused-from
     unused-from-requires
     returns-3)

@@ -1,7 +1,5 @@
-use Rattle.receive.specs.TakenLaws.{notLive, takes-liveUdp, takes-liveRtp, takes-notLive}
-use Rattle.context.specs.declared.decompressor.Status.{Status}
-use mathlib.Core.Path.{refl, ap}
-use borrow.Author.Tests.{eq-eqb, ne-eqb}
+use Rattle.receive.specs.TakenLaws.{notLive, takes-arrived, takes-notLive}
+use mathlib.Core.Path.{ap}
 use borrow.Author.Needs.{needs}
 use Rattle.receive.proofs.compressed.receive_on.Statement.{statement}
 use Rattle.receive.proofs.compressed.receive_on.Tie as tie
@@ -15,20 +13,11 @@ refuse-not-live-requires c κs = search needs
 enum-told-2 : tie.Need-enum-told-2
 enum-told-2 c = search needs
 
-receive-udp-requires : tie.Need-receive-udp-requires
-receive-udp-requires c κs = search needs
+arrive-requires : tie.Need-arrive-requires
+arrive-requires c κs = search needs
 
-same-length : tie.Need-same-length
-same-length c = search needs
-
-returns : tie.Need-returns
-returns c = let a = c .before .before .before .before .before .before .before .before .before .args in
-    takes-liveUdp (a .n) (a .c) _ _ (a .s .now) (a .out .now) (a .old) (a .h) (a .kind)
-    (c .before .before .before .before .before .enum-told2 .given .1) (eq-eqb _ _ (c .before .before .before .before .if1 .taken))
-    (c .before .before .receive-udp .ensures)
-
-receive-rtp-requires : tie.Need-receive-rtp-requires
-receive-rtp-requires c κs = search needs
+settle-read-requires : tie.Need-settle-read-requires
+settle-read-requires c κs = search needs
 
 enum-told-3 : tie.Need-enum-told-3
 enum-told-3 c = search needs
@@ -36,22 +25,27 @@ enum-told-3 c = search needs
 refuse-not-live-requires-2 : tie.Need-refuse-not-live-requires-2
 refuse-not-live-requires-2 c κs = search needs
 
-returns-2 : tie.Need-returns-2
-returns-2 c = let a = c .before .before .before .before .before .args in
+returns : tie.Need-returns
+returns c =
+    let a = c .before .before .before .before .before .args in
     takes-notLive (a .old) (a .n) (a .kind) (a .c) (a .h) (a .s .now) (a .out .now) (c .refuse-not-live .result)
     (c .refuse-not-live .ensures (a .n) (a .out .now)) (ap notLive (c .before .enum-told .given .1))
 
-same-length-2 : tie.Need-same-length-2
-same-length-2 c = search needs
+same-length : tie.Need-same-length
+same-length c = search needs
+
+returns-2 : tie.Need-returns-2
+returns-2 c =
+    let b6 = c .before .before .before .before .before .before in
+    let b11 = b6 .before .before .before .before .before in
+    let a = b11 .args in
+    let arrived = b6 .arrive in
+    takes-arrived (a .n) (a .c) (arrived .result) _ _ (a .s .now) (a .out .now) _ (arrived .ensures)
+    (c .before .before .settle-read .ensures)
 
 returns-3 : tie.Need-returns-3
-returns-3 c = let a = c .before .before .before .before .before .before .before .before .before .args in
-    takes-liveRtp (a .n) (a .c) _ _ (a .s .now) (a .out .now) (a .old) (a .h) (a .kind)
-    (c .before .before .before .before .before .enum-told2 .given .1) (ne-eqb _ _ (c .before .before .before .before .if1 .left))
-    (c .before .before .receive-rtp .ensures)
-
-returns-4 : tie.Need-returns-4
-returns-4 c = let a = c .before .before .before .before .before .args in
+returns-3 c =
+    let a = c .before .before .before .before .before .args in
     takes-notLive (a .old) (a .n) (a .kind) (a .c) (a .h) (a .s .now) (a .out .now) (c .refuse-not-live2 .result)
     (c .refuse-not-live2 .ensures (a .n) (a .out .now)) (ap notLive (c .before .enum-told3 .given .1))
 
@@ -62,13 +56,11 @@ receive-on-spec =
     enum-told
     refuse-not-live-requires
     enum-told-2
-    receive-udp-requires
-    same-length
-    returns
-    receive-rtp-requires
+    arrive-requires
+    settle-read-requires
     enum-told-3
     refuse-not-live-requires-2
+    returns
+    same-length
     returns-2
-    same-length-2
-    returns-3
-    returns-4)
+    returns-3)
