@@ -24,7 +24,7 @@ use Rattle.planes.specs.EveryLaws.{all-places, tail-places, every-given, passed
 use Rattle.planes.specs.ChainLaws.{Chain, none, leaf, both, eval, implied, same, absorbed, absorbed′, under, one-zero}
 use Rattle.compressor_table.specs.Layout.{usageOf, contextOf, contextIn, planeTable, sized, typed, fits, tableOf}
 use Rattle.compressor_table.specs.LayoutLaws.{empty-status}
-use Rattle.compressor_walk.specs.Walk.{headTest, dueTest, shortTest, wordTest, pastAt, listFree, unusedAt}
+use Rattle.compressor_walk.specs.Walk.{headTest, dueTest, shortTest, wordTest, pastAt, freeAt, unusedAt}
 use Rattle.compressor_walk.specs.Walk.{usedAt, evenAt, codedAt}
 
 ---- One place in use: the same tests in another order
@@ -334,17 +334,10 @@ walk H D S W T C P m q h =
     ∙ every-same (λ (i : ℕ). four i && Q i) (λ (i : ℕ). T i && C i) m h
     ∙ every-and T C m
 
--- no word in any list
-pub free-past : (w b : List ℕ) → every (listFree w) 960 ≡ true → true ≡ every (λ (k : ℕ). every (pastAt w b k) 64) 15
-free-past w b e =
-    sym (every-made (λ (k : ℕ). every (pastAt w b k) 64) 15 (λ k hk. every-made (pastAt w b k) 64 (λ i hi. free k i hk hi)))
-  where
-    free : (k i : ℕ) → k < 15 → i < 64 → pastAt w b k i ≡ true
-    free k i hk hi =
-        let x : 384 + (64 * k + i) ≡ 64 * (6 + k) + i = omega arith in
-        let z : eqb (cell w (6 + k) i) 0 ≡ true =
-        ap (λ (y : ℕ). eqb (getD w y 0) 0) (sym x) ∙ every-at (listFree w) 960 (64 * k + i) (omega arith) e in
-        rw z (or-true (ltb k (cell b 8 i)))
+-- a plane without words
+pub free-past : (w b : List ℕ) (k : ℕ) → every (freeAt w k) 64 ≡ true → true ≡ every (pastAt w b k) 64
+free-past w b k e =
+    sym (every-made (pastAt w b k) 64 (λ i h. rw (every-at (freeAt w k) 64 i h e) (or-true (ltb k (cell b 8 i)))))
 
 -- every place in use: of the wide numbers only the ranges are left
 module _ (w h b : List ℕ) where

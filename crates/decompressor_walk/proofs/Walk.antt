@@ -24,7 +24,7 @@ use Rattle.planes.specs.EveryLaws.{all-places, tail-places, every-given, passed
 use Rattle.planes.specs.ChainLaws.{Chain, none, leaf, both, eval, implied, same, absorbed, absorbed′, under, one-zero}
 use Rattle.decompressor_table.specs.Layout.{statusOf, flowOf, ipOf, rtpOf, listOf, deltasOf, linkOf, contextOf}
 use Rattle.decompressor_table.specs.Layout.{contextIn, planeTable, sized, typed, fits, tableOf}
-use Rattle.decompressor_walk.specs.Walk.{byteTest, shortTest, wordTest, pastAt, listFree, unusedAt}
+use Rattle.decompressor_walk.specs.Walk.{byteTest, shortTest, wordTest, pastAt, freeAt, unusedAt}
 use Rattle.decompressor_walk.specs.Walk.{filledAt, codedAt}
 
 ---- One place that was filled: the same tests in another order
@@ -316,17 +316,10 @@ empty-status s = by (eqb s 0) (eqb s 1)
     by false true = refl
     by false false = refl
 
--- no word in any list
-pub free-past : (w b : List ℕ) → every (listFree w) 960 ≡ true → true ≡ every (λ (k : ℕ). every (pastAt w b k) 64) 15
-free-past w b e =
-    sym (every-made (λ (k : ℕ). every (pastAt w b k) 64) 15 (λ k hk. every-made (pastAt w b k) 64 (λ i hi. free k i hk hi)))
-  where
-    free : (k i : ℕ) → k < 15 → i < 64 → pastAt w b k i ≡ true
-    free k i hk hi =
-        let x : 320 + (64 * k + i) ≡ 64 * (5 + k) + i = omega arith in
-        let z : eqb (cell w (5 + k) i) 0 ≡ true =
-        ap (λ (y : ℕ). eqb (getD w y 0) 0) (sym x) ∙ every-at (listFree w) 960 (64 * k + i) (omega arith) e in
-        rw z (or-true (ltb k (cell b 10 i)))
+-- a plane without words
+pub free-past : (w b : List ℕ) (k : ℕ) → every (freeAt w k) 64 ≡ true → true ≡ every (pastAt w b k) 64
+free-past w b k e =
+    sym (every-made (pastAt w b k) 64 (λ i h. rw (every-at (freeAt w k) 64 i h e) (or-true (ltb k (cell b 10 i)))))
 
 -- every place filled: of the wide numbers only the deltas' range is left
 module _ (w h b : List ℕ) where

@@ -1,4 +1,4 @@
-use Prim.Native.Nat.{_≤_, _-_}
+use Prim.Native.Nat.{_≤_, _<_, _-_, _+_, _*_}
 use mathlib.Core.Path.{_≡_}
 use native.Mathlib.Omega.{arith}
 use borrow.Author.Needs.{needs}
@@ -6,17 +6,21 @@ use denote.Ref.{now}
 use lib.ListN.{length}
 use Rattle.planes.specs.Planes.{every}
 use Rattle.planes.specs.EveryLaws.{every-more, every-done}
-use Rattle.compressor_walk.specs.Walk.{listFree}
-use Rattle.compressor_walk.proofs.sound.no_lists.Statement.{statement}
-use Rattle.compressor_walk.proofs.sound.no_lists.Tie as tie
-use Rattle.compressor_walk.proofs.sound.no_lists.Reads as reads
-use Rattle.compressor_walk.proofs.sound.no_lists.Lts as lts
+use Rattle.compressor_walk.specs.Walk.{freeAt}
+use Rattle.compressor_walk.proofs.sound.plane_free.Statement.{statement}
+use Rattle.compressor_walk.proofs.sound.plane_free.Tie as tie
 
 abbrev Inv-loop : tie.InvT-loop
-Inv-loop w ok₀ i₀ ok i = (length w ≡ 1344) × (i ≤ 960) × (ok ≡ every (listFree w) i)
+Inv-loop w k f ok₀ i₀ ok i = (length w ≡ 1344) × (k < 15) × (f ≡ 64 * (6 + k)) × (i ≤ 64) × (ok ≡ every (freeAt w k) i)
 
 abbrev μ-loop : tie.MeasureT-loop
-μ-loop w ok₀ i₀ ok i = 960 - i
+μ-loop w k f ok₀ i₀ ok i = 64 - i
+
+add-f : tie.Need-add-f Inv-loop μ-loop
+add-f c = omega arith
+
+mul-f : tie.Need-mul-f Inv-loop μ-loop
+mul-f c = omega arith
 
 loop-holds : tie.Need-loop-holds Inv-loop μ-loop
 loop-holds c = search needs
@@ -38,22 +42,24 @@ loop-less c = omega arith
 
 loop-again : tie.Need-loop-again Inv-loop μ-loop
 loop-again c =
-    let w = now (c .before .before .before .args .w) in
+    let a = c .before .before .before .args in
     let l = c .before .before .loop in
-    (l .inv .0, omega arith, every-more (listFree w) (l .i) (l .ok) (l .inv .2))
+    (l .inv .0, l .inv .1, l .inv .2, omega arith, every-more (freeAt (now (a .w)) (a .k)) (l .i) (l .ok) (l .inv .4))
 
 returns : tie.Need-returns Inv-loop μ-loop
 returns c =
-    let w = now (c .before .before .args .w) in
+    let a = c .before .before .args in
     let l = c .before .loop in
-    every-done (listFree w) (l .i) 960 (l .ok) (l .inv .2) (l .inv .1) (omega arith)
+    every-done (freeAt (now (a .w)) (a .k)) (l .i) 64 (l .ok) (l .inv .4) (l .inv .3) (omega arith)
 
-pub no-lists-spec : {M : Type 1} → statement M
-no-lists-spec =
+pub plane-free-spec : {M : Type 1} → statement M
+plane-free-spec =
     tie.close
     (tie.spec
     Inv-loop
     μ-loop
+    add-f
+    mul-f
     loop-holds
     add-ok
     mul-ok
