@@ -7,4 +7,5 @@ pub mod due;
 pub mod judge;
 pub mod run;
 pub mod send;
+pub mod steady;
 pub mod step;
