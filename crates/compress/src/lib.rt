@@ -7,5 +7,4 @@ pub mod due;
 pub mod judge;
 pub mod run;
 pub mod send;
-pub mod steady;
 pub mod step;

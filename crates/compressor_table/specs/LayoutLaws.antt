@@ -172,15 +172,15 @@ typedRow-true b e =
     record { status = p .0; padding = p .1; extension = p .2; blank = p .3; known = p .4 }
 
 module _ (w h b : List ℕ) (i : ℕ) where
-  words-forth : wordsOf (contextIn w h b i) ≡ row w i 0 21
+  pub words-forth : wordsOf (contextIn w h b i) ≡ row w i 0 21
   unfolding contextOf
   words-forth = refl
 
-  shorts-forth : shortsOf (contextIn w h b i) ≡ row h i 0 6
+  pub shorts-forth : shortsOf (contextIn w h b i) ≡ row h i 0 6
   unfolding contextOf
   shorts-forth = refl
 
-  bytes-forth : Typed (row b i 0 20) → bytesOf (contextIn w h b i) ≡ row b i 0 20
+  pub bytes-forth : Typed (row b i 0 20) → bytesOf (contextIn w h b i) ≡ row b i 0 20
   unfolding contextOf
   bytes-forth t = rw (
     usage-forth _ (t .status),

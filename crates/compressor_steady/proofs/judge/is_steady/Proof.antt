@@ -1,7 +1,7 @@
 use Rattle.context.specs.Steady.{steady}
 use borrow.Author.Needs.{needs}
-use Rattle.compress.proofs.steady.is_steady.Statement.{statement}
-use Rattle.compress.proofs.steady.is_steady.Tie as tie
+use Rattle.compressor_steady.proofs.judge.is_steady.Statement.{statement}
+use Rattle.compressor_steady.proofs.judge.is_steady.Tie as tie
 
 -- src/steady.rt:56:9
 is-live-requires : tie.Need-is-live-requires

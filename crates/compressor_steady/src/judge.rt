@@ -1,8 +1,8 @@
 ghost use mathlib.Core.Path.{_≡_};
 ghost use Rattle.context.specs.Steady.{isLive, idle, onPattern, steady};
-use crate::run::same_constants;
 use codes::difference::difference16;
 use codes::difference::difference32;
+use compress::run::same_constants;
 use context::compressor::CompressorContext;
 use context::compressor::Due;
 use context::compressor::Usage;

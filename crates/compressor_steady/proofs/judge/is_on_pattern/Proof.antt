@@ -1,6 +1,6 @@
 use borrow.Author.Needs.{needs}
-use Rattle.compress.proofs.steady.is_on_pattern.Statement.{statement}
-use Rattle.compress.proofs.steady.is_on_pattern.Tie as tie
+use Rattle.compressor_steady.proofs.judge.is_on_pattern.Statement.{statement}
+use Rattle.compressor_steady.proofs.judge.is_on_pattern.Tie as tie
 
 -- src/steady.rt:36:9
 difference16-requires : tie.Need-difference16-requires
