@@ -14,8 +14,8 @@ use Rattle.compressor_table.specs.Layout.{tableOf}
 use Rattle.compressor_table.specs.LayoutLaws.{fits-sizes, tableOf-repeats}
 use Rattle.compressor_table.specs.CallsLaws.{gives-kept}
 use Rattle.send.proofs.Sending.{past-link, sendWith-refused, sendWith-written, step-here, gives-sent}
-use Rattle.send.proofs.send_on.Statement.{statement}
-use Rattle.send.proofs.send_on.Tie as tie
+use Rattle.send.proofs.send_stepped.Statement.{statement}
+use Rattle.send.proofs.send_stepped.Tie as tie
 
 abbrev handed : tie.Start → Lent
 handed s = lent (now (s .args .w)) (now (s .args .h)) (now (s .args .b))
@@ -238,8 +238,8 @@ returns-2 c =
     ))
     (b18 .put-link .ensures) (b14 .put-all .ensures))
 
-pub send-on-spec : {M : Type 1} → statement M
-send-on-spec =
+pub send-stepped-spec : {M : Type 1} → statement M
+send-stepped-spec =
     tie.close
     (tie.spec
     list-at-requires
