@@ -27,9 +27,10 @@ cast-put-steady c = search needs
 put-steady-requires : tie.Need-put-steady-requires
 put-steady-requires c κs =
     let s = c .before .before .before .before .before .before in
-    let a = s .args in
-    (link-steady (handed s) (a .i) (a .p .now) (a .x) (a .c) (s .pre .0) (s .pre .1) (s .pre .2) (s .pre .3) (s .pre .4),
-    omega (arith, s .pre .1 .whole, s .pre .5))
+    let a = s .args in (
+      link-steady (handed s) (a .i) (a .p .now) (a .x) (a .c) (s .pre .0) (s .pre .1) (s .pre .2) (s .pre .3) (s .pre .4),
+      omega (arith, s .pre .1 .whole, s .pre .5),
+    )
 
 -- src/lib.rt:74:37
 sub-put-all : tie.Need-sub-put-all
