@@ -4,4 +4,5 @@ pub mod Decompressor
 pub mod All
 pub mod Sound
 pub mod Ranges
+pub mod SteadyArrival
 pub mod Cases
