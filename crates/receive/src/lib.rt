@@ -10,6 +10,7 @@ mod full;
 mod judge;
 mod output;
 mod settle;
+mod steady;
 
 ghost use mathlib.Core.Path.{_≡_};
 ghost use Prim.Native.Nat.{_≤_};
