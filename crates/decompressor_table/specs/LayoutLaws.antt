@@ -282,53 +282,56 @@ puts-put l i c f s n =
       same = λ e. ap (put l i) e ∙ put-same l i s (fits-typed l f);
     }
 
----- one context moved: five of its numbers written
+---- one context moved: five numbers of its row written
 
--- slices with a row replaced, and one number of that row written after it
+-- a slice with a row replaced, and one number of that row written after it
 set-replaced : (k l vs : List ℕ) (i f v : ℕ) → k ≡ replaced l i 0 vs → i < 64 → f < length vs
     → set k (64 * (0 + f) + i) v ≡ replaced l i 0 (set vs f v)
 set-replaced k l vs i f v e s h = ap (λ (x : List ℕ). set x (64 * (0 + f) + i) v) e ∙ replaced-set vs l i 0 f v s h
 
-module _ (d c : DecompressorContext) where
-  words-moved : set (wordsOf c) 3 (d .rtp .timestamp) ≡ wordsOf (movedTo d c)
-  words-moved = refl
-
-  shorts-moved : set (set (shortsOf c) 2 (d .ip .id)) 3 (d .rtp .sequence) ≡ shortsOf (movedTo d c)
-  shorts-moved = refl
-
-  bytes-moved : set (set (bytesOf c) 8 (bit (d .marker))) 11 (d .link .sequence) ≡ bytesOf (movedTo d c)
-  bytes-moved = refl
-
+-- d: the context at place i, moved
 module _ (l : Lent) (i : ℕ) (d : DecompressorContext) (f : Fits l) (s : i < 64) where
   abbrev there : DecompressorContext
   there = contextIn (l .words) (l .shorts) (l .bytes) i
 
-  kept : put l i there ≡ l
-  kept = put-same l i s (fits-typed l f)
+  abbrev numbered : List ℕ
+  numbered = set (l .shorts) (128 + i) (d .ip .id)
 
-  put-moved : lent (set (l .words) (192 + i) (d .rtp .timestamp))
-      (set (set (l .shorts) (128 + i) (d .ip .id)) (192 + i) (d .rtp .sequence))
-      (set (set (l .bytes) (512 + i) (bit (d .marker))) (704 + i) (d .link .sequence)) ≡ put l i (movedTo d there)
-  put-moved = lent-same (put l i (movedTo d there)) _ _ _
-      (set-replaced (l .words) (l .words) (wordsOf there) i 3 (d .rtp .timestamp) (sym (ap (λ (k : Lent). k .words) kept)) s
-      (omega arith)
-      ∙ ap (replaced (l .words) i 0) (words-moved d there))
-      (set-replaced (set (l .shorts) (128 + i) (d .ip .id)) (l .shorts) (set (shortsOf there) 2 (d .ip .id)) i 3 (d .rtp .sequence)
-      (set-replaced (l .shorts) (l .shorts) (shortsOf there) i 2 (d .ip .id) (sym (ap (λ (k : Lent). k .shorts) kept)) s (omega arith))
-      s (omega arith)
-      ∙ ap (replaced (l .shorts) i 0) (shorts-moved d there))
-      (set-replaced (set (l .bytes) (512 + i) (bit (d .marker))) (l .bytes) (set (bytesOf there) 8 (bit (d .marker))) i 11
-      (d .link .sequence)
-      (set-replaced (l .bytes) (l .bytes) (bytesOf there) i 8 (bit (d .marker)) (sym (ap (λ (k : Lent). k .bytes) kept)) s (omega arith))
-      s (omega arith)
-      ∙ ap (replaced (l .bytes) i 0) (bytes-moved d there))
+  abbrev marked : List ℕ
+  marked = set (l .bytes) (512 + i) (bit (d .marker))
 
-  pub puts-moved : d ≡ movedTo d there
-      → Puts l i d (lent (set (l .words) (192 + i) (d .rtp .timestamp))
-      (set (set (l .shorts) (128 + i) (d .ip .id)) (192 + i) (d .rtp .sequence))
-      (set (set (l .bytes) (512 + i) (bit (d .marker))) (704 + i) (d .link .sequence)))
+  abbrev written : Lent
+  written = lent (set (l .words) (192 + i) (d .rtp .timestamp)) (set numbered (192 + i) (d .rtp .sequence))
+      (set marked (704 + i) (d .link .sequence))
+
+  kept : l ≡ put l i there
+  kept = sym (put-same l i s (fits-typed l f))
+
+  words-written : written .words ≡ replaced (l .words) i 0 (wordsOf (movedTo d there))
+  words-written =
+      set-replaced (l .words) (l .words) (wordsOf there) i 3 (d .rtp .timestamp) (ap (λ (k : Lent). k .words) kept) s (omega arith)
+
+  shorts-written : written .shorts ≡ replaced (l .shorts) i 0 (shortsOf (movedTo d there))
+  shorts-written =
+      let e = set-replaced (l .shorts) (l .shorts) (shortsOf there) i 2 (d .ip .id) (ap (λ (k : Lent). k .shorts) kept) s
+      (omega arith) in
+      set-replaced numbered (l .shorts) (set (shortsOf there) 2 (d .ip .id)) i 3 (d .rtp .sequence) e s (omega arith)
+
+  bytes-written : written .bytes ≡ replaced (l .bytes) i 0 (bytesOf (movedTo d there))
+  bytes-written =
+      let e = set-replaced (l .bytes) (l .bytes) (bytesOf there) i 8 (bit (d .marker)) (ap (λ (k : Lent). k .bytes) kept) s
+      (omega arith) in
+      set-replaced marked (l .bytes) (set (bytesOf there) 8 (bit (d .marker))) i 11 (d .link .sequence) e s (omega arith)
+
+  put-moved : written ≡ put l i (movedTo d there)
+  put-moved = lent-same (put l i (movedTo d there)) (written .words) (written .shorts) (written .bytes) words-written shorts-written
+      bytes-written
+
+  pub puts-moved : d ≡ movedTo d there → Puts l i d written
   unfolding contextOf
-  puts-moved e = rw (put-moved ∙ ap (put l i) (sym e)) (puts-put l i d f s (ap (λ (x : DecompressorContext). length (x .csrc .words)) e))
+  puts-moved e =
+      rw (put-moved ∙ ap (put l i) (sym e))
+      (puts-put l i d f s (ap (λ (x : DecompressorContext). length (x .csrc .words)) e))
 
 -- a sound table has slices that hold one
 pub sound-fits : (l : Lent) → soundOf (tableOf l) ≡ true → Fits l

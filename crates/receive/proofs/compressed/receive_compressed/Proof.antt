@@ -97,53 +97,60 @@ context-at-requires c κs =
       )),
     )
 
--- where the context was read
+-- places before the context was read: where its number and the flag byte were, and the start
+abbrev numbered : tie.After-context-at → tie.After-read-context
+numbered c = c .before .before .before .before .before .before .before .before .before .before .before
+
+abbrev headed : tie.After-context-at → tie.After-read-head
+headed c = c .before .before .before .before .before .before .before
+
 abbrev start : tie.After-context-at → tie.Start
-start c = c .before .before .before .before .before .before .before .before .before .before .before .before .before .before .before .before .before
+start c = numbered c .before .before .before .before .before .before
 
 abbrev place : tie.After-context-at → ℕ
-place c = c .before .before .before .before .before .before .before .before .before .before .before .read-context .result .field .value
+place c = numbered c .read-context .result .field .value
 
 found : (c : tie.After-context-at)
-    → Found (handed (start c)) (place c) (c .context-at .result) (c .before .before .before .before .before .before .before .read-head .result) (start c .args .s .now)
+    → Found (handed (start c)) (place c) (c .context-at .result) (headed c .read-head .result) (start c .args .s .now)
 found c =
     let s = start c in
-    let k = c .before .before .before .before .before .before .before .before .before .before .before .read-context in
+    let k = numbered c .read-context in
     record {
       fits = s .pre .0;
       sound = s .pre .1;
       place = omega (
         arith,
-        c .before .before .before .before .before .before .before .before .if1 .left,
+        headed c .before .if1 .left,
         sound-most (held s) (s .pre .1),
         tableOf-contexts (handed s) (s .pre .0),
       );
       context = c .context-at .ensures;
-      head = c .before .before .before .before .before .before .before .read-head .ensures .0 ∙ headAt-context (s .args .s .now) (k .result) (k .ensures);
+      head = headed c .read-head .ensures .0 ∙ headAt-context (s .args .s .now) (k .result) (k .ensures);
       some = s .pre .2;
       short = s .pre .3;
     }
 
-compressed : (c : tie.After-context-at)
-    → foundOn (start c .args .old) (start c .args .kind) (held (start c)) (place c) (start c .args .s .now) (start c .args .out .now)
-    ≡ receiveCompressed (start c .args .old) (start c .args .kind) (held (start c)) (start c .args .s .now) (start c .args .out .now)
+compressed : (c : tie.After-context-at) → let a = start c .args in
+    foundOn (a .old) (a .kind) (held (start c)) (place c) (a .s .now) (a .out .now)
+    ≡ receiveCompressed (a .old) (a .kind) (held (start c)) (a .s .now) (a .out .now)
 compressed c =
     let s = start c in
     let a = s .args in
-    let k = c .before .before .before .before .before .before .before .before .before .before .before .read-context in
+    let k = numbered c .read-context in
     let n = number (a .s .now) (k .result) (k .ensures) in
-    let e = rw (c .before .before .before .before .before .is-accepted .ensures, found c .head) at
-    (not-false (c .before .before .before .before .before .is-accepted .result) (c .before .before .before .before .if2 .left)) in
+    let b4 = c .before .before .before .before in
+    let e = rw (b4 .before .is-accepted .ensures, found c .head) at (not-false (b4 .before .is-accepted .result) (b4 .if2 .left)) in
     ap (λ (i : ℕ). foundOn (a .old) (a .kind) (held s) i (a .s .now) (a .out .now)) n
     ∙ sym (compressed-on (a .old) (a .kind) (held s) (a .s .now) (a .out .now)
-    (omega (arith, n, c .before .before .before .before .before .before .before .before .if1 .left, tableOf-contexts (handed s) (s .pre .0))) e)
+    (omega (arith, n, headed c .before .if1 .left, tableOf-contexts (handed s) (s .pre .0))) e)
 
 read-steady-requires : tie.Need-read-steady-requires
 read-steady-requires c κs = (rw (found c .head) (headOf-within (start c .args .s .now)), start c .pre .3)
 
 receive-steady-requires : tie.Need-receive-steady-requires
 receive-steady-requires c κs =
-    (found (c .before .before .before .before .before .before), c .before .before .before .before .before .read-steady .ensures (c .before .before .before .before .if3 .taken) .1)
+    let b4 = c .before .before .before .before in
+    (found (b4 .before .before), b4 .before .read-steady .ensures (b4 .if3 .taken) .1)
 
 same-length : tie.Need-same-length
 same-length c = search needs
@@ -159,16 +166,19 @@ same-length-4 c = search needs
 
 returns-3 : tie.Need-returns-3
 returns-3 c =
-    let d = c .before .before .before .before .before .before .before .before .before .before .before .before .before .before .before in
+    let b8 = c .before .before .before .before .before .before .before .before in
+    let b13 = b8 .before .before .before .before .before in
+    let d = b13 .before .before in
     let s = start d in
     let a = s .args in
     let f = found d in
-    let y = c .before .before .before .before .before .before .before .before .before .before .before .before .before .before .read-steady .ensures (c .before .before .before .before .before .before .before .before .before .before .before .before .before .if3 .taken) in
+    let y = b13 .before .read-steady .ensures (b13 .if3 .taken) in
     gives-by (handed s) _ _ _ _ (receiveCompressed (a .old) (a .kind) (held s) (a .s .now) (a .out .now))
-    (steady-found (held s) (place d) (d .context-at .result) (d .before .before .before .before .before .before .before .read-head .result) (a .s .now) (a .out .now) _ _
-    (here (handed s) (place d) (f .fits) (f .place) (d .context-at .result) (f .context)) (y .1) (a .old) (a .kind) (y .0) (f .head)
+    (steady-found (held s) (place d) (d .context-at .result) (headed d .read-head .result) (a .s .now) (a .out .now) _ _
+    (here (handed s) (place d) (f .fits) (f .place) (d .context-at .result) (f .context)) (y .1) (a .old) (a .kind) (y .0)
+    (f .head)
     ∙ compressed d)
-    (c .before .before .before .before .before .before .before .before .receive-steady .ensures)
+    (b8 .receive-steady .ensures)
 
 receive-found-requires : tie.Need-receive-found-requires
 receive-found-requires c κs = found (c .before .before .before .before .before .before)
@@ -187,11 +197,12 @@ same-length-8 c = search needs
 
 returns-4 : tie.Need-returns-4
 returns-4 c =
-    let d = c .before .before .before .before .before .before .before .before .before .before .before .before .before .before .before in
+    let b8 = c .before .before .before .before .before .before .before .before in
+    let d = b8 .before .before .before .before .before .before .before in
     let s = start d in
     let a = s .args in
     gives-by (handed s) _ _ _ _ (receiveCompressed (a .old) (a .kind) (held s) (a .s .now) (a .out .now)) (compressed d)
-    (c .before .before .before .before .before .before .before .before .receive-found .ensures)
+    (b8 .receive-found .ensures)
 
 pub receive-compressed-spec : {M : Type 1} → statement M
 receive-compressed-spec =

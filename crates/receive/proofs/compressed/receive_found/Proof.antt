@@ -13,7 +13,9 @@ abbrev handed : tie.Start → Lent
 handed s = lent (now (s .args .w)) (now (s .args .h)) (now (s .args .b))
 
 slice-read-receive-on : tie.Need-slice-read-receive-on
-slice-read-receive-on c = let s = c .before .before .before .before .before .before in omega (arith, fits-sizes (handed s) (s .pre .fits) .bytes)
+slice-read-receive-on c =
+    let s = c .before .before .before .before .before .before in
+    omega (arith, fits-sizes (handed s) (s .pre .fits) .bytes)
 
 receive-on-requires : tie.Need-receive-on-requires
 receive-on-requires c κs =
@@ -40,12 +42,14 @@ same-length-4 c = search needs
 
 returns : tie.Need-returns
 returns c =
-    let s = c .before .before .before .before .before .before .before .before .before .before .before .before .before .before .before .before .before .before .before .before .before in
+    let b6 = c .before .before .before .before .before .before in
+    let b13 = b6 .before .before .before .before .before .before .before in
+    let s = b13 .before .before .before .before .before .before .before .before in
     let a = s .args in
     let f = s .pre in
-    let x = c .before .before .before .before .before .before .before .before .before .before .before .before .before .receive-on in
+    let x = b13 .receive-on in
     gives-placed (handed s) (a .i) (f .fits) (f .place) _ (x .result) _
-    (foundOn (a .old) (a .kind) (tableOf (handed s)) (a .i) (a .s .now) (a .out .now)) (c .before .before .before .before .before .before .put-context .ensures)
+    (foundOn (a .old) (a .kind) (tableOf (handed s)) (a .i) (a .s .now) (a .out .now)) (b6 .put-context .ensures)
     (taken-here (handed s) (a .i) (f .fits) (f .place) (a .c) (f .context) (a .old) (a .kind) (a .head) (a .s .now) (a .out .now) _
     (x .result) (f .head) (x .ensures))
 

@@ -20,9 +20,10 @@ put-moved-requires c κs = search needs
 
 put-bare-packet-requires : tie.Need-put-bare-packet-requires
 put-bare-packet-requires c κs =
-    let s = c .before .before .before .before .before .before .before .before .before .before .before .before .before .before .before .before .before in
+    let b11 = c .before .before .before .before .before .before .before .before .before .before .before in
+    let s = b11 .before .before .before .before .before .before in
     let a = s .args in
-    rw (c .before .before .before .before .before .before .before .before .before .before .before .rebuild .ensures) (
+    rw (b11 .rebuild .ensures) (
       s .pre .3,
       rebuilt-count (a .c) (a .sent) (s .pre .4),
       rebuilt-size (a .c) (a .sent) (s .pre .4) (length (a .rest .now)),
@@ -44,10 +45,13 @@ same-length-4 c = search needs
 
 returns : tie.Need-returns
 returns c =
-    let s = c .before .before .before .before .before .before .before .before .before .before .before .before .before .before .before .before .before .before .before .before in
+    let b10 = c .before .before .before .before .before .before .before .before .before .before in
+    let b14 = b10 .before .before .before .before in
+    let s = b14 .before .before .before .before .before .before in
     let a = s .args in
-    gives-delivered (a .c) (a .sent) (s .pre .4) (handed s) _ (a .i) (a .rest .now) (a .out .now) _ _ (c .before .before .before .before .before .before .before .before .before .before .before .before .before .before .rebuild .result)
-    (c .before .before .before .before .before .before .before .before .before .before .before .before .before .before .rebuild .ensures) (s .pre .6) (c .before .before .before .before .before .before .before .before .before .before .put-moved .ensures) (c .before .before .put-bare-packet .ensures)
+    gives-delivered (a .c) (a .sent) (s .pre .4) (handed s) _ (a .i) (a .rest .now) (a .out .now) _ _
+    (b14 .rebuild .result) (b14 .rebuild .ensures) (s .pre .6) (b10 .put-moved .ensures)
+    (c .before .before .put-bare-packet .ensures)
 
 pub deliver-spec : {M : Type 1} → statement M
 deliver-spec =

@@ -33,11 +33,15 @@ is-accepted-requires c κs = search needs
 
 returns-2 : tie.Need-returns-2
 returns-2 c = λ g.
-    let a = c .before .before .before .before .before .before .before .before .before .args in
-    let w = c .before .before .before .next-word in
-    steadily-made (a .kind) (a .c) (a .h) (a .s .now) (a .room) (c .before .before .before .before .before .before .before .before .before .pre .0) (c .before .before .before .before .before .before .is-steady .result) (w .result)
-    (c .is-accepted .result) (c .before .before .before .before .before .before .is-steady .ensures) (c .before .before .before .before .before .if1 .left)
-    (w .ensures ∙ ap (nextWord (a .s .now) (a .h .place)) (c .before .before .before .before .reads-checksum .ensures)) (c .is-accepted .ensures) g
+    let b3 = c .before .before .before in
+    let b5 = b3 .before .before in
+    let b6 = b5 .before in
+    let s = b6 .before .before .before in
+    let a = s .args in
+    let w = b3 .next-word in
+    steadily-made (a .kind) (a .c) (a .h) (a .s .now) (a .room) (s .pre .0) (b6 .is-steady .result) (w .result)
+    (c .is-accepted .result) (b6 .is-steady .ensures) (b5 .if1 .left)
+    (w .ensures ∙ ap (nextWord (a .s .now) (a .h .place)) (b3 .before .reads-checksum .ensures)) (c .is-accepted .ensures) g
 
 pub read-steady-spec : {M : Type 1} → statement M
 read-steady-spec =

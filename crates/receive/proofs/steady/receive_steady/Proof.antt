@@ -24,13 +24,14 @@ part-deliver-end c = search needs
 
 deliver-requires : tie.Need-deliver-requires
 deliver-requires c κs =
-    let s = c .before .before .before .before .before .before .before .before .before .before .before .before in
+    let b5 = c .before .before .before .before .before in
+    let s = b5 .before .before .before .before .before .before .before in
     let a = s .args in
     let l = handed s in
     let n = length (a .out .now) in
     let f = s .pre .0 in
     let t = s .pre .1 in
-    rw (c .before .before .before .before .before .step-on .ensures, part-rest (a .s .now) (a .read .start)) (
+    rw (b5 .step-on .ensures, part-rest (a .s .now) (a .read .start)) (
       f .fits,
       f .place,
       found-moved l (a .i) (a .c) (a .head) (a .s .now) n (a .read) f t,
@@ -54,8 +55,10 @@ same-length-4 c = search needs
 
 returns : tie.Need-returns
 returns c =
-    let a = c .before .before .before .before .before .before .before .before .before .before .before .before .before .before .before .before .before .before .before .before .before .args in
-    rw (c .before .before .before .before .before .before .before .before .before .before .before .before .before .before .step-on .ensures, part-rest (a .s .now) (a .read .start)) at (c .before .before .before .before .before .before .before .before .deliver .ensures)
+    let b8 = c .before .before .before .before .before .before .before .before in
+    let b14 = b8 .before .before .before .before .before .before in
+    let a = b14 .before .before .before .before .before .before .before .args in
+    rw (b14 .step-on .ensures, part-rest (a .s .now) (a .read .start)) at (b8 .deliver .ensures)
 
 pub receive-steady-spec : {M : Type 1} → statement M
 receive-steady-spec =
