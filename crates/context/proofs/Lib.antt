@@ -5,6 +5,7 @@ pub mod Tests
 pub mod FieldLaws
 pub mod WholeLaws
 pub mod Gap
+pub mod SteadyArrivalLaws
 pub mod Begun
 pub mod Lost
 pub mod Arrives

@@ -5,4 +5,5 @@ pub mod Steady
 pub mod All
 pub mod Sound
 pub mod Ranges
+pub mod SteadyArrival
 pub mod Cases

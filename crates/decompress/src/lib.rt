@@ -8,4 +8,5 @@ pub mod apply;
 pub mod full;
 pub mod gap;
 pub mod header;
+pub mod steady;
 pub mod steps;

@@ -1,0 +1,17 @@
+use Rattle.context.specs.SteadyArrival.{isNext}
+use borrow.Author.Needs.{needs}
+use Rattle.decompress.proofs.steady.is_next.Statement.{statement}
+use Rattle.decompress.proofs.steady.is_next.Tie as tie
+
+is-live-requires : tie.Need-is-live-requires
+is-live-requires c κs = search needs
+
+gap-of-requires : tie.Need-gap-of-requires
+gap-of-requires c κs = search needs
+
+returns : tie.Need-returns
+unfolding isNext
+returns c = rw (c .before .gap-of .ensures, c .before .before .is-live .ensures)
+
+pub is-next-spec : {M : Type 1} → statement M
+is-next-spec = tie.close (tie.spec is-live-requires gap-of-requires returns)
