@@ -2,19 +2,17 @@
 -- Assumes nothing. Used by the proof of send.
 use Prim.Native.Nat.{ℕ, _<_}
 use mathlib.Core.Path.{_≡_, refl, sym, ap, _∙_}
-use mathlib.Core.Bool.{Bool, true, false, _&&_, and-eq-true-iff}
-use mathlib.Core.List.{List, [], _∷_}
-use borrow.Author.Tests.{eqb-true}
-use lib.Dec.{eqb, leb}
-use lib.ListN.{length, drop, replicate}
+use mathlib.Core.Bool.{true}
+use mathlib.Core.List.{List}
+use lib.ListN.{length}
 use Rattle.packet.specs.Csrc.{noList}
-use Rattle.packet.specs.declared.csrc.Csrc.{Csrc}
 use Rattle.headers.specs.Header.{listAt, countAt, rtpAt, headerOf}
-use Rattle.context.specs.Sound.{isZero, zeros, soundList, usedSound, soundCompressor, soundCompressorBy}
+use Rattle.context.specs.Sound.{usedSound, soundCompressor, soundCompressorBy}
 use Rattle.context.specs.declared.compressor.Usage.{Usage}
 use Rattle.context.specs.declared.compressor.Usage.the-variants.{Live}
 use Rattle.context.specs.declared.compressor.CompressorContext.{CompressorContext}
 use Rattle.context.proofs.SoundFacts.{usedSound-bounds}
+use Rattle.context.proofs.Unfilled.{soundList-none}
 use Rattle.compressor.specs.declared.table.Table.{Table}
 use Rattle.compressor.specs.Table.{contextAt, soundOf}
 use Rattle.compressor.specs.TableLaws.{soundOf-true}
@@ -34,22 +32,6 @@ unfolding headerOf rtpAt
 header-none p e = listAt-none p 40 (countAt p 28) e
 
 ---- A context's list
-
-zero-words : (l : List ℕ) → zeros l ≡ true → l ≡ replicate (length l) 0
-zero-words [] e = refl
-zero-words (x ∷ l) e =
-    let p = and-eq-true-iff (isZero x) (zeros l) .0 e in
-    λ i. eqb-true x 0 (p .0) i ∷ zero-words l (p .1) i
-
-list-none : (l : Csrc) → l .count ≡ 0 → zeros (l .words) ≡ true → length (l .words) ≡ 15 → l ≡ noList
-list-none l z e n =
-    λ i. record { count = z i; words = (zero-words (l .words) e ∙ ap (λ (k : ℕ). replicate k 0) n) i }
-
-soundList-none : (l : Csrc) → soundList l ≡ true → l .count ≡ 0 → length (l .words) ≡ 15 → l ≡ noList
-unfolding soundList
-soundList-none l e z n =
-    let p = and-eq-true-iff (leb (l .count) 15) (zeros (drop (l .count) (l .words))) .0 e .1 in
-    list-none l z (ap (λ (k : ℕ). zeros (drop k (l .words))) (sym z) ∙ p) n
 
 live-sound : (n : ℕ) (c : CompressorContext) → soundCompressor n c ≡ true → c .status ≡ Live → usedSound n c ≡ true
 unfolding soundCompressor soundCompressorBy

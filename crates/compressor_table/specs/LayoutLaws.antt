@@ -172,11 +172,11 @@ typedRow-true b e =
     record { status = p .0; padding = p .1; extension = p .2; blank = p .3; known = p .4 }
 
 module _ (w h b : List ℕ) (i : ℕ) where
-  pub words-forth : wordsOf (contextIn w h b i) ≡ row w i 0 21
+  words-forth : wordsOf (contextIn w h b i) ≡ row w i 0 21
   unfolding contextOf
   words-forth = refl
 
-  pub shorts-forth : shortsOf (contextIn w h b i) ≡ row h i 0 6
+  shorts-forth : shortsOf (contextIn w h b i) ≡ row h i 0 6
   unfolding contextOf
   shorts-forth = refl
 

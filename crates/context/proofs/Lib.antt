@@ -16,4 +16,4 @@ pub mod DecompressorSound
 pub mod DecompressorRange
 pub mod PartsLaws
 pub mod Unfilled
-pub mod Steady
+pub mod SteadyPacketLaws

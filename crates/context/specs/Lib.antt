@@ -1,7 +1,7 @@
 pub mod Field
 pub mod Compressor
 pub mod Decompressor
-pub mod Steady
+pub mod SteadyPacket
 pub mod All
 pub mod Sound
 pub mod Ranges

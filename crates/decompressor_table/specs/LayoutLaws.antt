@@ -17,7 +17,7 @@ use Rattle.decompressor.specs.declared.table.Table.{Table}
 use Rattle.decompressor.specs.Table.{contextAt, withContext, noContext, unopened, soundOf}
 use Rattle.decompressor.specs.TableLaws.{unsound-unopened}
 use Rattle.planes.specs.Planes.{Lent, lent, cell, row, replaced, places, every}
-use Rattle.planes.specs.PlanesLaws.{length-replaced, row-same, row-other, replaced-row, replaced-set, getD-past}
+use Rattle.planes.specs.PlanesLaws.{length-replaced, row-same, row-other, replaced-row, set-replaced, getD-past}
 use Rattle.planes.specs.PlanesLaws.{places-at, places-set, length-places}
 use Rattle.planes.specs.EveryLaws.{every-at, every-made}
 use Rattle.decompressor_table.specs.Layout.{statusOf, contextOf, flowOf, ipOf, rtpOf, listOf, deltasOf, linkOf}
@@ -283,11 +283,6 @@ puts-put l i c f s n =
     }
 
 ---- one context moved: five numbers of its row written
-
--- a slice with a row replaced, and one number of that row written after it
-set-replaced : (k l vs : List ℕ) (i f v : ℕ) → k ≡ replaced l i 0 vs → i < 64 → f < length vs
-    → set k (64 * (0 + f) + i) v ≡ replaced l i 0 (set vs f v)
-set-replaced k l vs i f v e s h = ap (λ (x : List ℕ). set x (64 * (0 + f) + i) v) e ∙ replaced-set vs l i 0 f v s h
 
 -- d: the context at place i, moved
 module _ (l : Lent) (i : ℕ) (d : DecompressorContext) (f : Fits l) (s : i < 64) where

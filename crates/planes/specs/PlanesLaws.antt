@@ -65,7 +65,7 @@ set-before (u ∷ vs) l i f x v h =
     ∙ ap (λ (k : List ℕ). replaced k i (suc f) vs) (set-comm l (64 * f + i) x u v (λ e. omega arith))
 
 -- a row with another number in plane f + g
-pub replaced-set : (vs l : List ℕ) (i f g v : ℕ) → i < 64 → g < length vs
+replaced-set : (vs l : List ℕ) (i f g v : ℕ) → i < 64 → g < length vs
     → set (replaced l i f vs) (64 * (f + g) + i) v ≡ replaced l i f (set vs g v)
 replaced-set [] l i f g v a h = absurd (omega arith)
 replaced-set (u ∷ vs) l i f zero v a h =
@@ -78,6 +78,11 @@ replaced-set (u ∷ vs) l i f (suc g) v a h =
   where
     add-suc : (f g : ℕ) → f + suc g ≡ suc f + g
     add-suc f g = omega arith
+
+-- the same of a list that is known to be one with a row replaced
+pub set-replaced : (k l vs : List ℕ) (i f v : ℕ) → k ≡ replaced l i 0 vs → i < 64 → f < length vs
+    → set k (64 * (0 + f) + i) v ≡ replaced l i 0 (set vs f v)
+set-replaced k l vs i f v e s h = ap (λ (x : List ℕ). set x (64 * (0 + f) + i) v) e ∙ replaced-set vs l i 0 f v s h
 
 ---- a loop that replaces a row
 

@@ -3,18 +3,18 @@
 use Prim.Native.Nat.{ℕ}
 use mathlib.Core.Path.{_≡_, refl, sym, ap, _∙_}
 use mathlib.Core.Bool.{Bool, true, false, _&&_, not, true≢false, and-eq-true-iff}
-use mathlib.Core.List.{List, [], _∷_}
 use lib.Dec.{eqb}
 use borrow.Author.Tests.{eqb-true, eq-eqb}
 use Rattle.codes.specs.Difference.{difference}
 use Rattle.packet.proofs.Chain.{all-of-eight}
-use Rattle.packet.specs.Csrc.{same, sameList}
+use Rattle.packet.specs.Csrc.{sameList}
+use Rattle.packet.specs.CsrcLaws.{sameList-refl}
 use Rattle.packet.specs.declared.csrc.Csrc.{Csrc}
 use Rattle.packet.specs.declared.header.Header.{Header}
 use Rattle.context.specs.Field.{offPattern, counted, isDue}
 use Rattle.context.specs.Compressor.{sameConstants, begun, reset, judged, adoptsId, adoptsTimestamp, differences, dueNow}
 use Rattle.context.specs.Compressor.{anyDue, kindOf, dueAfter, deltasAfter, moved, sentWith, stepOf, nothingDue, Going}
-use Rattle.context.specs.Steady.{isLive, idle, onPattern, steady, steadied, steadyStep}
+use Rattle.context.specs.SteadyPacket.{isLive, idle, onPattern, steady, steadied, steadyStep}
 use Rattle.context.specs.declared.kept.Deltas.{Deltas}
 use Rattle.context.specs.declared.compressor.Usage.{Usage}
 use Rattle.context.specs.declared.compressor.Usage.the-variants.{Empty, Live}
@@ -83,14 +83,6 @@ steady-true h c e =
     }
 
 ---- How it is judged
-
-same-refl : (l : List ℕ) → same l l ≡ true
-same-refl [] = refl
-same-refl (x ∷ l) = rw (eq-eqb x x refl, same-refl l)
-
-sameList-refl : (l : Csrc) → sameList l l ≡ true
-unfolding sameList
-sameList-refl l = rw (eq-eqb (l .count) (l .count) refl, same-refl (l .words))
 
 on-pattern : (w last delta x : ℕ) → difference w last x ≡ delta → offPattern w last delta x ≡ false
 unfolding offPattern
