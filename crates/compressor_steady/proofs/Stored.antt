@@ -7,7 +7,7 @@ use native.Mathlib.Omega.{arith}
 use lib.ListN.{length, getD, set}
 use Rattle.packet.specs.declared.header.Header.{Header}
 use Rattle.context.specs.Field.{nextSequence}
-use Rattle.context.specs.SteadyPacket.{steadied}
+use Rattle.compressor_steady.specs.Steady.{steadied}
 use Rattle.context.specs.declared.compressor.CompressorContext.{CompressorContext}
 use Rattle.planes.specs.Planes.{Lent, lent, row, replaced}
 use Rattle.planes.specs.PlanesLaws.{replaced-row, set-replaced}

@@ -12,7 +12,7 @@ use Rattle.packet.specs.declared.header.Header.{Header}
 use Rattle.links.specs.Head.{headBytes}
 use Rattle.links.specs.Cr.{crBytes}
 use Rattle.context.specs.Compressor.{partsOf, listIf}
-use Rattle.context.specs.SteadyPacket.{steadied, steadyStep}
+use Rattle.compressor_steady.specs.Steady.{steadied, steadyStep}
 use Rattle.context.specs.declared.compressor.CompressorContext.{CompressorContext}
 use Rattle.outgoing.specs.Outgoing.{linkBytes}
 

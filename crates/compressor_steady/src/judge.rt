@@ -1,5 +1,5 @@
 ghost use mathlib.Core.Path.{_≡_};
-ghost use Rattle.context.specs.SteadyPacket.{isLive, idle, onPattern, steady};
+ghost use Rattle.compressor_steady.specs.Steady.{isLive, idle, onPattern, steady};
 use codes::difference::difference16;
 use codes::difference::difference32;
 use compress::run::same_constants;

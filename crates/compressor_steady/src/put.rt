@@ -2,7 +2,7 @@ ghost use mathlib.Core.Path.{_≡_};
 ghost use Prim.Native.Nat.{ℕ, _<_, _≤_};
 ghost use lib.ListN.{length};
 ghost use Rattle.bytes.specs.Put.{Wrote};
-ghost use Rattle.context.specs.SteadyPacket.{steadyStep};
+ghost use Rattle.compressor_steady.specs.Steady.{steadyStep};
 ghost use Rattle.outgoing.specs.Outgoing.{linkBytes};
 use bytes::flags::Flags;
 use bytes::put::put16_if;

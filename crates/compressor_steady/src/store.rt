@@ -3,7 +3,7 @@ ghost use Prim.Native.Nat.{_<_, _+_};
 ghost use lib.ListN.{length, getD, set};
 ghost use Rattle.planes.specs.Planes.{lent};
 ghost use Rattle.context.specs.Field.{nextSequence};
-ghost use Rattle.context.specs.SteadyPacket.{steadied};
+ghost use Rattle.compressor_steady.specs.Steady.{steadied};
 ghost use Rattle.compressor_table.specs.Layout.{contextIn, Fits, Puts};
 use compress::step::next_sequence;
 use compressor_table::layout::Layout;

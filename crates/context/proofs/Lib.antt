@@ -5,7 +5,6 @@ pub mod Tests
 pub mod FieldLaws
 pub mod WholeLaws
 pub mod Gap
-pub mod SteadyArrivalLaws
 pub mod Begun
 pub mod Lost
 pub mod Arrives
@@ -16,4 +15,3 @@ pub mod DecompressorSound
 pub mod DecompressorRange
 pub mod PartsLaws
 pub mod Unfilled
-pub mod SteadyPacketLaws

@@ -1,9 +1,7 @@
 pub mod Field
 pub mod Compressor
 pub mod Decompressor
-pub mod SteadyPacket
 pub mod All
 pub mod Sound
 pub mod Ranges
-pub mod SteadyArrival
 pub mod Cases

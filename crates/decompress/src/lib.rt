@@ -8,5 +8,4 @@ pub mod apply;
 pub mod full;
 pub mod gap;
 pub mod header;
-pub mod steady;
 pub mod steps;

@@ -12,12 +12,11 @@ use lib.ListN.{length, getD, set}
 use Rattle.context.specs.declared.decompressor.Status.{Status}
 use Rattle.context.specs.declared.decompressor.Status.the-variants.{Empty, Live, Broken}
 use Rattle.context.specs.declared.decompressor.DecompressorContext.{DecompressorContext}
-use Rattle.context.specs.SteadyArrival.{movedTo}
 use Rattle.decompressor.specs.declared.table.Table.{Table}
 use Rattle.decompressor.specs.Table.{contextAt, withContext, noContext, unopened, soundOf}
 use Rattle.decompressor.specs.TableLaws.{unsound-unopened}
 use Rattle.planes.specs.Planes.{Lent, lent, cell, row, replaced, places, every}
-use Rattle.planes.specs.PlanesLaws.{length-replaced, row-same, row-other, replaced-row, set-replaced, getD-past}
+use Rattle.planes.specs.PlanesLaws.{length-replaced, row-same, row-other, replaced-row, getD-past}
 use Rattle.planes.specs.PlanesLaws.{places-at, places-set, length-places}
 use Rattle.planes.specs.EveryLaws.{every-at, every-made}
 use Rattle.decompressor_table.specs.Layout.{statusOf, contextOf, flowOf, ipOf, rtpOf, listOf, deltasOf, linkOf}
@@ -199,7 +198,7 @@ made : (n n′ k k′ : ℕ) (l l′ : List DecompressorContext) → n ≡ n′ 
     (record { settings = record { repeats = n′; contexts = k′ }; contexts = l′ })
 made n n′ k k′ l l′ d e f = rw (d, e, f)
 
-abbrev put : Lent → (i : ℕ) → DecompressorContext → Lent
+abbrev pub put : Lent → (i : ℕ) → DecompressorContext → Lent
 put l i c = lent (replaced (l .words) i 0 (wordsOf c)) (replaced (l .shorts) i 0 (shortsOf c)) (replaced (l .bytes) i 0 (bytesOf c))
 
 module _ (l : Lent) (i : ℕ) (c : DecompressorContext) (s : i < 64) (z : Sizes l) (n : length (c .csrc .words) ≡ 15) where
@@ -256,10 +255,10 @@ module _ (l : Lent) (i : ℕ) (c : DecompressorContext) (s : i < 64) (z : Sizes 
       (every-made (typed (put l i c .bytes)) 64 (typed-written e))
 
 -- a row that is replaced by itself
-lent-same : (l : Lent) (w h b : List ℕ) → w ≡ l .words → h ≡ l .shorts → b ≡ l .bytes → lent w h b ≡ l
+pub lent-same : (l : Lent) (w h b : List ℕ) → w ≡ l .words → h ≡ l .shorts → b ≡ l .bytes → lent w h b ≡ l
 lent-same l w h b p q r = rw (p, q, r)
 
-put-same : (l : Lent) (i : ℕ) → i < 64 → every (typed (l .bytes)) 64 ≡ true
+pub put-same : (l : Lent) (i : ℕ) → i < 64 → every (typed (l .bytes)) 64 ≡ true
     → put l i (contextIn (l .words) (l .shorts) (l .bytes) i) ≡ l
 put-same l i s e =
     let t = typedRow-true (row (l .bytes) i 0 13) (every-at (typed (l .bytes)) 64 i s e) in
@@ -281,52 +280,6 @@ puts-put l i c f s n =
           ∙ ap (λ (t : Table). withContext t i c) (sym (tableOf-fits l f));
       same = λ e. ap (put l i) e ∙ put-same l i s (fits-typed l f);
     }
-
----- one context moved: five numbers of its row written
-
--- d: the context at place i, moved
-module _ (l : Lent) (i : ℕ) (d : DecompressorContext) (f : Fits l) (s : i < 64) where
-  abbrev there : DecompressorContext
-  there = contextIn (l .words) (l .shorts) (l .bytes) i
-
-  abbrev numbered : List ℕ
-  numbered = set (l .shorts) (128 + i) (d .ip .id)
-
-  abbrev marked : List ℕ
-  marked = set (l .bytes) (512 + i) (bit (d .marker))
-
-  abbrev written : Lent
-  written = lent (set (l .words) (192 + i) (d .rtp .timestamp)) (set numbered (192 + i) (d .rtp .sequence))
-      (set marked (704 + i) (d .link .sequence))
-
-  kept : l ≡ put l i there
-  kept = sym (put-same l i s (fits-typed l f))
-
-  words-written : written .words ≡ replaced (l .words) i 0 (wordsOf (movedTo d there))
-  words-written =
-      set-replaced (l .words) (l .words) (wordsOf there) i 3 (d .rtp .timestamp) (ap (λ (k : Lent). k .words) kept) s (omega arith)
-
-  shorts-written : written .shorts ≡ replaced (l .shorts) i 0 (shortsOf (movedTo d there))
-  shorts-written =
-      let e = set-replaced (l .shorts) (l .shorts) (shortsOf there) i 2 (d .ip .id) (ap (λ (k : Lent). k .shorts) kept) s
-      (omega arith) in
-      set-replaced numbered (l .shorts) (set (shortsOf there) 2 (d .ip .id)) i 3 (d .rtp .sequence) e s (omega arith)
-
-  bytes-written : written .bytes ≡ replaced (l .bytes) i 0 (bytesOf (movedTo d there))
-  bytes-written =
-      let e = set-replaced (l .bytes) (l .bytes) (bytesOf there) i 8 (bit (d .marker)) (ap (λ (k : Lent). k .bytes) kept) s
-      (omega arith) in
-      set-replaced marked (l .bytes) (set (bytesOf there) 8 (bit (d .marker))) i 11 (d .link .sequence) e s (omega arith)
-
-  put-moved : written ≡ put l i (movedTo d there)
-  put-moved = lent-same (put l i (movedTo d there)) (written .words) (written .shorts) (written .bytes) words-written shorts-written
-      bytes-written
-
-  pub puts-moved : d ≡ movedTo d there → Puts l i d written
-  unfolding contextOf
-  puts-moved e =
-      rw (put-moved ∙ ap (put l i) (sym e))
-      (puts-put l i d f s (ap (λ (x : DecompressorContext). length (x .csrc .words)) e))
 
 -- a sound table has slices that hold one
 pub sound-fits : (l : Lent) → soundOf (tableOf l) ≡ true → Fits l

@@ -2,9 +2,7 @@ ghost use mathlib.Core.Path.{_≡_};
 ghost use Prim.Native.Nat.{_<_};
 ghost use lib.ListN.{length};
 ghost use Rattle.planes.specs.Planes.{lent, replaced};
-ghost use Rattle.context.specs.SteadyArrival.{movedTo};
-ghost use Rattle.decompressor_table.specs.Layout.{statusNumber, bit, wordsOf, shortsOf, bytesOf, contextIn, Fits, Puts};
-use crate::layout::Layout;
+ghost use Rattle.decompressor_table.specs.Layout.{statusNumber, bit, wordsOf, shortsOf, bytesOf, Fits, Puts};
 use context::decompressor::DecompressorContext;
 use context::decompressor::Status;
 
@@ -18,7 +16,7 @@ fn status_number(s: Status) -> u8
     }
 }
 
-fn bit(b: bool) -> u8
+pub fn bit(b: bool) -> u8
     ensures { λ r. ⌜ r ≡ bit b ⌝ }
 {
     if b { 1 } else { 0 }
@@ -137,18 +135,4 @@ pub fn put_context(w: &mut [u32], h: &mut [u16], b: &mut [u8], i: usize, c: Deco
     put_words(w, i, x);
     put_shorts(h, i, y);
     put_bytes(b, i, z);
-}
-
-// The same for a context of which only that differs which a CR without fields moves. So five numbers are stored, and no row.
-pub fn put_moved(w: &mut [u32], h: &mut [u16], b: &mut [u8], i: usize, c: DecompressorContext)
-    requires { ⌜ Fits (lent (now w) (now h) (now b)) × (i < 64) × (c ≡ movedTo c (contextIn (now w) (now h) (now b) i)) ⌝ }
-    ensures { λ _. ⌜ Puts (lent (now (w .entry)) (now (h .entry)) (now (b .entry))) i c
-        (lent (now (w .exit)) (now (h .exit)) (now (b .exit))) ⌝ }
-{
-    let marker = bit(c.marker);
-    w[Layout::TIMESTAMP + i] = c.rtp.timestamp;
-    h[Layout::ID + i] = c.ip.id;
-    h[Layout::SEQUENCE + i] = c.rtp.sequence;
-    b[Layout::MARKER + i] = marker;
-    b[Layout::LINK_SEQUENCE + i] = c.link.sequence;
 }

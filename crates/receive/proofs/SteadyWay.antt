@@ -28,11 +28,11 @@ use Rattle.links.specs.Head.{headOf}
 use Rattle.links.specs.Cr.{crFlagsOf, secondWith, secondOf, deltasOf, crRest, crOf}
 use Rattle.context.specs.Decompressor.{acceptedAs, Effect, applied, checksumRead, rebuilt}
 use Rattle.context.specs.Sound.{soundDecompressor}
-use Rattle.context.specs.SteadyArrival.{isNext, movedTo, oneStepOn}
+use Rattle.decompressor_steady.specs.Steady.{isNext, movedTo, oneStepOn}
 use Rattle.context.specs.declared.decompressor.Status.{Status}
 use Rattle.context.specs.declared.decompressor.Status.the-variants.{Live}
 use Rattle.context.specs.declared.decompressor.DecompressorContext.{DecompressorContext}
-use Rattle.context.proofs.SteadyArrivalLaws.{Next, isNext-true, oneStepOn-moved, bareParts, applied-bare}
+use Rattle.decompressor_steady.proofs.Rules.{Next, isNext-true, oneStepOn-moved, bareParts, applied-bare}
 use Rattle.decompressor.specs.declared.answer.Outcome.the-variants.{Accepted}
 use Rattle.decompressor.specs.declared.old.OldForm.{OldForm}
 use Rattle.decompressor.specs.declared.table.Table.{Table}

@@ -1,4 +1,4 @@
--- Iarwennol. The short way of the arrival that most packets are (SteadyArrival of context): when it is gone, and where it leads.
+-- Iarwennol. The short way of the arrival that most packets are (decompressor_steady): when it is gone, and where it leads.
 -- Used by the contracts of the functions on that way; that it leads where the rules do is proved, and need not be believed.
 use Prim.Native.Nat.{ℕ, _+_, _-_, _≤_}
 use mathlib.Core.Path.{_≡_}
@@ -11,7 +11,7 @@ use Rattle.fields.specs.Next.{nextWord}
 use Rattle.links.specs.declared.head.Head.{Head}
 use Rattle.packet.specs.Refusal.{isAccepted}
 use Rattle.context.specs.Decompressor.{checksumRead, rebuilt}
-use Rattle.context.specs.SteadyArrival.{isNext}
+use Rattle.decompressor_steady.specs.Steady.{isNext}
 use Rattle.context.specs.declared.decompressor.DecompressorContext.{DecompressorContext}
 use Rattle.decompressor.specs.declared.table.Table.{Table}
 use Rattle.decompressor.specs.Answer.{Result, delivered}

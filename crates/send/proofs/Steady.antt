@@ -10,10 +10,10 @@ use Rattle.packet.specs.declared.header.Header.{Header}
 use Rattle.bytes.specs.Put.{Wrote}
 use Rattle.headers.specs.Header.{headerSize}
 use Rattle.context.specs.Compressor.{partsOf, listIf, Going}
-use Rattle.context.specs.SteadyPacket.{steady, steadied, steadyStep}
+use Rattle.compressor_steady.specs.Steady.{steady, steadied, steadyStep}
 use Rattle.context.specs.declared.compressor.Usage.{Usage}
 use Rattle.context.specs.declared.compressor.CompressorContext.{CompressorContext}
-use Rattle.context.proofs.SteadyPacketLaws.{Steady, steady-true, steady-step}
+use Rattle.compressor_steady.proofs.Rules.{Steady, steady-true, steady-step}
 use Rattle.outgoing.specs.Outgoing.{stepBy, stepOn, linkBytes}
 use Rattle.outgoing.specs.Size.{linkSize, Writable}
 use Rattle.compressor.specs.declared.table.Table.{Table}

@@ -8,7 +8,7 @@ ghost use mathlib.Core.Path.{_≡_};
 ghost use mathlib.Core.Bool.{true};
 ghost use Prim.Native.Nat.{_≤_};
 ghost use lib.ListN.{length};
-ghost use Rattle.context.specs.SteadyPacket.{steady};
+ghost use Rattle.compressor_steady.specs.Steady.{steady};
 ghost use Rattle.compressor_steady.specs.Unlisted.{Unlisted};
 ghost use Rattle.compressor.specs.Send.{sendOf};
 ghost use Rattle.compressor.specs.CanSend.{CanSend, sendWith};

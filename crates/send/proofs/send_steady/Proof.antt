@@ -1,7 +1,7 @@
 use native.Mathlib.Omega.{arith}
 use denote.Ref.{now}
 use lib.ListN.{length}
-use Rattle.context.specs.SteadyPacket.{steadied}
+use Rattle.compressor_steady.specs.Steady.{steadied}
 use Rattle.compressor.specs.declared.table.Table.{Table}
 use Rattle.compressor.specs.SentLaws.{length-rest}
 use Rattle.compressor.specs.CanSend.{sendWith}

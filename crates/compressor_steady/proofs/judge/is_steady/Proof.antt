@@ -1,4 +1,4 @@
-use Rattle.context.specs.SteadyPacket.{steady}
+use Rattle.compressor_steady.specs.Steady.{steady}
 use borrow.Author.Needs.{needs}
 use Rattle.compressor_steady.proofs.judge.is_steady.Statement.{statement}
 use Rattle.compressor_steady.proofs.judge.is_steady.Tie as tie

@@ -11,18 +11,18 @@ use Rattle.packet.specs.Csrc.{sameList}
 use Rattle.packet.specs.CsrcLaws.{sameList-refl}
 use Rattle.packet.specs.declared.csrc.Csrc.{Csrc}
 use Rattle.packet.specs.declared.header.Header.{Header}
 use Rattle.context.specs.Field.{offPattern, counted, isDue}
 use Rattle.context.specs.Compressor.{sameConstants, begun, reset, judged, adoptsId, adoptsTimestamp, differences, dueNow}
 use Rattle.context.specs.Compressor.{anyDue, kindOf, dueAfter, deltasAfter, moved, sentWith, stepOf, nothingDue, Going}
-use Rattle.context.specs.SteadyPacket.{isLive, idle, onPattern, steady, steadied, steadyStep}
+use Rattle.compressor_steady.specs.Steady.{isLive, idle, onPattern, steady, steadied, steadyStep}
 use Rattle.context.specs.declared.kept.Deltas.{Deltas}
 use Rattle.context.specs.declared.compressor.Usage.{Usage}
 use Rattle.context.specs.declared.compressor.Usage.the-variants.{Empty, Live}
 use Rattle.context.specs.declared.compressor.Due.{Due}
 use Rattle.context.specs.declared.compressor.CompressorContext.{CompressorContext}
 use Rattle.context.specs.declared.step.Judged.{Judged}
 use Rattle.context.proofs.Tests.{SameConstants, same-constants, adoptsId-off, adoptsTimestamp-off}
 use Rattle.context.proofs.Begun.{begun-same}
 
 ---- What the test tells
 

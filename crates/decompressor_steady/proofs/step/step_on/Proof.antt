@@ -1,7 +1,7 @@
-use Rattle.context.specs.SteadyArrival.{oneStepOn}
+use Rattle.decompressor_steady.specs.Steady.{oneStepOn}
 use borrow.Author.Needs.{needs}
-use Rattle.decompress.proofs.steady.step_on.Statement.{statement}
-use Rattle.decompress.proofs.steady.step_on.Tie as tie
+use Rattle.decompressor_steady.proofs.step.step_on.Statement.{statement}
+use Rattle.decompressor_steady.proofs.step.step_on.Tie as tie
 
 sum16-requires : tie.Need-sum16-requires
 sum16-requires c κs = search needs

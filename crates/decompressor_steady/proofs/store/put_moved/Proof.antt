@@ -2,10 +2,11 @@ use denote.Ref.{now}
 use native.Mathlib.Omega.{arith}
 use lib.ListN.{length-set}
 use Rattle.planes.specs.Planes.{Lent, lent}
-use Rattle.decompressor_table.specs.LayoutLaws.{Sizes, fits-sizes, puts-moved}
+use Rattle.decompressor_table.specs.LayoutLaws.{Sizes, fits-sizes}
+use Rattle.decompressor_steady.proofs.Stored.{puts-moved}
 use borrow.Author.Needs.{needs}
-use Rattle.decompressor_table.proofs.write.put_moved.Statement.{statement}
-use Rattle.decompressor_table.proofs.write.put_moved.Tie as tie
+use Rattle.decompressor_steady.proofs.store.put_moved.Statement.{statement}
+use Rattle.decompressor_steady.proofs.store.put_moved.Tie as tie
 
 abbrev handed : tie.Start → Lent
 handed s = lent (now (s .args .w)) (now (s .args .h)) (now (s .args .b))

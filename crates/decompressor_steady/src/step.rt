@@ -1,8 +1,8 @@
 ghost use mathlib.Core.Path.{_≡_};
-ghost use Rattle.context.specs.SteadyArrival.{isLive, isNext, oneStepOn};
-use crate::gap;
+ghost use Rattle.decompressor_steady.specs.Steady.{isLive, isNext, oneStepOn};
 use context::decompressor::DecompressorContext;
 use context::decompressor::Status;
+use decompress::gap::gap_of;
 
 fn is_live(s: Status) -> bool
     ensures { λ r. ⌜ r ≡ isLive s ⌝ }
@@ -20,7 +20,7 @@ pub fn is_next(q: u8, c: DecompressorContext) -> bool
 {
     let status = c.status;
     let live = is_live(status);
-    let g = gap::gap_of(c.link.sequence, q);
+    let g = gap_of(c.link.sequence, q);
     live & (c.csrc.count == 0) & (g == 1)
 }
 

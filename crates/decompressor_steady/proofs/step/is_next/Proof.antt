@@ -1,7 +1,7 @@
-use Rattle.context.specs.SteadyArrival.{isNext}
+use Rattle.decompressor_steady.specs.Steady.{isNext}
 use borrow.Author.Needs.{needs}
-use Rattle.decompress.proofs.steady.is_next.Statement.{statement}
-use Rattle.decompress.proofs.steady.is_next.Tie as tie
+use Rattle.decompressor_steady.proofs.step.is_next.Statement.{statement}
+use Rattle.decompressor_steady.proofs.step.is_next.Tie as tie
 
 is-live-requires : tie.Need-is-live-requires
 is-live-requires c κs = search needs

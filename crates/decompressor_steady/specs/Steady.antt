@@ -1,14 +1,14 @@
 -- Iarwennol. The arrival that most packets are: a CR with no field but its UDP checksum, one step on, on a live context that has no
 -- CSRC list.
--- Used by the short way that the decompressor has for it; what it does follows from Decompressor (SteadyArrivalLaws).
+-- Used by the short way that the decompressor has for it; what it does follows from Decompressor (proofs/Rules).
 use Prim.Native.Nat.{ℕ}
 use mathlib.Core.Bool.{Bool, true, false, _&&_}
 use lib.Dec.{eqb}
 use Rattle.codes.specs.Difference.{sum}
 use Rattle.context.specs.Decompressor.{gapOf}
 use Rattle.context.specs.declared.decompressor.Status.{Status}
 use Rattle.context.specs.declared.decompressor.Status.the-variants.{Empty, Live, Broken}
 use Rattle.context.specs.declared.decompressor.DecompressorContext.{DecompressorContext}
 
 abbrev pub isLive : Status → Bool
 isLive Empty = false

@@ -8,13 +8,13 @@ use borrow.Author.Tests.{eqb-true}
 use lib.Dec.{eqb}
 use Rattle.packet.specs.Csrc.{noList}
 use Rattle.packet.specs.declared.parts.Parts.{Parts}
 use Rattle.context.specs.Field.{movedOn}
 use Rattle.context.specs.Decompressor.{gapOf, ipAfter, rtpAfter, deltasHeld, advanced, acceptedAs, applied}
-use Rattle.context.specs.SteadyArrival.{isLive, isNext, movedTo, oneStepOn}
+use Rattle.decompressor_steady.specs.Steady.{isLive, isNext, movedTo, oneStepOn}
 use Rattle.context.specs.declared.decompressor.Status.{Status}
 use Rattle.context.specs.declared.decompressor.Status.the-variants.{Empty, Live, Broken}
 use Rattle.context.specs.declared.decompressor.DecompressorContext.{DecompressorContext}
 use Rattle.context.proofs.Gap.{applied-in-step}
 
 ---- isNext
 
