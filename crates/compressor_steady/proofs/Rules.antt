@@ -107,8 +107,8 @@ nothingJudged d = record {
   deltas = d;
 }
 
-judged-of : (a b e f g i j : Bool) (d d′ : Deltas) → a ≡ false → b ≡ false → e ≡ false → f ≡ false → g ≡ false → i ≡ false → j ≡ false
-    → d ≡ d′ → _≡_ {A = Judged}
+judged-of : (a b e f g i j : Bool) (d d′ : Deltas) → a ≡ false → b ≡ false → e ≡ false → f ≡ false → g ≡ false → i ≡ false
+    → j ≡ false → d ≡ d′ → _≡_ {A = Judged}
     (record { id = a; sequence = b; timestamp = e; payload = f; list = g; did = i; dts = j; deltas = d }) (nothingJudged d′)
 judged-of a b e f g i j d d′ p q r s t u v w = rw (p, q, r, s, t, u, v, w)
 

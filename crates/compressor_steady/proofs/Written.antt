@@ -1,5 +1,5 @@
--- Iarwennol. The bytes of a steady packet before its rest: the head of a CR and the UDP checksum, and nothing else. Assumes nothing.
--- Used by the proof of put_steady.
+-- Iarwennol. The bytes of a steady packet before its rest: the head of a CR and the UDP checksum, and nothing else.
+-- Assumes nothing. Used by the proof of put_steady.
 use Prim.Native.Nat.{ℕ, _≤_}
 use mathlib.Core.Path.{_≡_, refl, sym, ap, _∙_}
 use mathlib.Core.Bool.{Bool, true, false, cond, not}

@@ -11,7 +11,8 @@ use packet::header::Header;
 
 fn store_words(w: &mut [u32], i: usize, timestamp: u32)
     requires { ⌜ (length (now w) ≡ 1344) × (i < 64) ⌝ }
-    ensures { λ _. ⌜ now (w .exit) ≡ set (set (now (w .entry)) (320 + i) (getD (now (w .entry)) (256 + i) 0)) (192 + i) timestamp ⌝ }
+    ensures { λ _. ⌜ now (w .exit)
+        ≡ set (set (now (w .entry)) (320 + i) (getD (now (w .entry)) (256 + i) 0)) (192 + i) timestamp ⌝ }
 {
     w[Layout::EARLIER_TIMESTAMP + i] = w[Layout::DELTA_TIMESTAMP + i];
     w[Layout::TIMESTAMP + i] = timestamp;

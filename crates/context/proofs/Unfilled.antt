@@ -14,8 +14,8 @@ use Rattle.packet.specs.declared.csrc.Csrc.{Csrc}
 use Rattle.packet.specs.declared.header.Flow.{Flow}
 use Rattle.packet.specs.declared.header.Ip.{Ip}
 use Rattle.packet.specs.declared.header.Rtp.{Rtp}
-use Rattle.context.specs.Sound.{isZero, zeros, soundList, zeroFlow, zeroIp, zeroRtp, zeroList, zeroDeltas, zeroLink, unfilledSound}
-use Rattle.context.specs.Sound.{noFlow, noIp, noRtp}
+use Rattle.context.specs.Sound.{isZero, zeros, soundList, zeroFlow, zeroIp, zeroRtp, zeroList, zeroDeltas, zeroLink}
+use Rattle.context.specs.Sound.{unfilledSound, noFlow, noIp, noRtp}
 use Rattle.context.specs.declared.kept.Deltas.{Deltas}
 use Rattle.context.specs.declared.kept.Link.{Link}
 use Rattle.context.specs.declared.decompressor.Status.{Status}

@@ -4,8 +4,8 @@
 // that an arrival does, is `decompressor`'s. What becomes of one context is decided in `context` and `decompress`, what bytes mean
 // in `headers` and `links`; here a link packet finds its context, which is read out and stored back, and the rebuilt packet is
 // judged and finds its output.
-// Read `receive` first, then `compressed`, `settle` and `judge`. `steady` is a short way for what most arrivals are; it is proved to
-// do what they do.
+// Read `receive` first, then `compressed`, `settle` and `judge`. `steady` is a short way for what most arrivals are
+// (`decompressor_steady`): it is proved to do what they do.
 mod compressed;
 mod full;
 mod judge;
