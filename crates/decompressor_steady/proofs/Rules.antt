@@ -10,7 +10,7 @@ use Rattle.packet.specs.Csrc.{noList}
 use Rattle.packet.specs.declared.parts.Parts.{Parts}
 use Rattle.context.specs.Field.{movedOn}
 use Rattle.context.specs.Decompressor.{gapOf, ipAfter, rtpAfter, deltasHeld, advanced, acceptedAs, applied}
-use Rattle.decompressor_steady.specs.Steady.{isLive, isNext, movedTo, oneStepOn}
+use Rattle.decompressor_steady.specs.Steady.{isLive, isStep, isNext, movedTo, oneStepOn}
 use Rattle.context.specs.declared.decompressor.Status.{Status}
 use Rattle.context.specs.declared.decompressor.Status.the-variants.{Empty, Live, Broken}
 use Rattle.context.specs.declared.decompressor.DecompressorContext.{DecompressorContext}
@@ -31,9 +31,9 @@ isLive-true Broken e = absurd (false≢true e)
 pub isNext-true : (q : ℕ) (c : DecompressorContext) → isNext q c ≡ true → Next q c
 unfolding isNext
 isNext-true q c e =
-    let p = and-eq-true-iff (isLive (c .status) && eqb (c .csrc .count) 0) (eqb (gapOf q c) 1) .0 e in
-    let r = and-eq-true-iff (isLive (c .status)) (eqb (c .csrc .count) 0) .0 (p .0) in
-    record { live = isLive-true (c .status) (r .0); unlisted = eqb-true _ _ (r .1); step = eqb-true _ _ (p .1) }
+    let p = and-eq-true-iff (isLive (c .status)) (isStep q c) .0 e in
+    let r = and-eq-true-iff (eqb (c .csrc .count) 0) (eqb (gapOf q c) 1) .0 (p .1) in
+    record { live = isLive-true (c .status) (p .0); unlisted = eqb-true _ _ (r .0); step = eqb-true _ _ (r .1) }
 
 ---- oneStepOn
 

@@ -15,9 +15,13 @@ isLive Empty = false
 isLive Live = true
 isLive Broken = false
 
--- rule 7.2: the link sequence q is the one after the last, on a live context that has no CSRC list
+-- rule 7.2: the link sequence q is the one after the last, on a context that has no CSRC list
+abbrev pub isStep : (q : ℕ) → DecompressorContext → Bool
+isStep q c = eqb (c .csrc .count) 0 && eqb (gapOf q c) 1
+
+-- and that is live
 unfoldable pub isNext : (q : ℕ) → DecompressorContext → Bool
-isNext q c = isLive (c .status) && eqb (c .csrc .count) 0 && eqb (gapOf q c) 1
+isNext q c = isLive (c .status) && isStep q c
 
 -- a context with ID, sequence, timestamp, marker and link sequence of d, and all else as c has it
 abbrev pub movedTo : (d c : DecompressorContext) → DecompressorContext

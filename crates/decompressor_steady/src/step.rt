@@ -1,27 +1,27 @@
 ghost use mathlib.Core.Path.{_≡_};
-ghost use Rattle.decompressor_steady.specs.Steady.{isLive, isNext, oneStepOn};
+ghost use Rattle.decompressor_steady.specs.Steady.{isStep, isNext, oneStepOn};
 use context::decompressor::DecompressorContext;
 use context::decompressor::Status;
 use decompress::gap::gap_of;
 
-fn is_live(s: Status) -> bool
-    ensures { λ r. ⌜ r ≡ isLive s ⌝ }
+fn is_step(q: u8, c: DecompressorContext) -> bool
+    ensures { λ r. ⌜ r ≡ isStep q c ⌝ }
 {
-    match s {
-        Status::Empty => false,
-        Status::Live => true,
-        Status::Broken => false,
-    }
+    let g = gap_of(c.link.sequence, q);
+    (c.csrc.count == 0) & (g == 1)
 }
 
-// Whether the packet with the link sequence q is the next one of a live context that has no CSRC list.
+// Whether the packet with the link sequence q is the next one of a live context that has no CSRC list. The status is taken apart
+// before the gap is looked at.
 pub fn is_next(q: u8, c: DecompressorContext) -> bool
     ensures { λ r. ⌜ r ≡ isNext q c ⌝ }
 {
     let status = c.status;
-    let live = is_live(status);
-    let g = gap_of(c.link.sequence, q);
-    live & (c.csrc.count == 0) & (g == 1)
+    match status {
+        Status::Empty => false,
+        Status::Live => is_step(q, c),
+        Status::Broken => false,
+    }
 }
 
 // The context after a CR without fields that is one step on. It says again what `advance` does with such a packet, so that the

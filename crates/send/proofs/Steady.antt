@@ -45,9 +45,6 @@ size-steady : (x : Header) (c : CompressorContext) → linkSize x (steadyStep x 
 unfolding linkSize steadied partsOf listIf
 size-steady x c = omega arith
 
-header-steady : (x : Header) → x .csrc .count ≡ 0 → 40 ≡ headerSize x
-header-steady x e = omega (arith, e)
-
 ---- On a table that is lent
 
 module _ (l : Lent) (i : ℕ) (p : List ℕ) (x : Header) (c : CompressorContext) (f : Fits l) (k : CanSend (tableOf l) i p x)
@@ -70,29 +67,24 @@ module _ (l : Lent) (i : ℕ) (p : List ℕ) (x : Header) (c : CompressorContext
   pub link-steady : c .link .sequence < 16
   link-steady = writable-steady .sequence
 
-  pub room-steady : linkSize x (steadyStep x c) + (length p - 40) ≤ length p
-  room-steady = omega (
-    arith,
-    size-steady x c,
-    two-most (not (c .blank)),
-    k .whole,
-    header-steady x (told .unlisted),
-  )
+  -- start: where the rest of the packet begins
+  module _ (start : ℕ) (g : start ≡ headerSize x) where
+    pub room-steady : linkSize x (steadyStep x c) + (length p - start) ≤ length p
+    room-steady = omega (arith, size-steady x c, two-most (not (c .blank)), k .whole, g)
 
-  pub past-steady : {output between : List ℕ} {past : ℕ} → Wrote output between 0 past (linkBytes i (length p) x (steadyStep x c))
-      → past ≡ linkSize x (steadyStep x c)
-  past-steady {output} w =
-      past-link (tableOf l) i p output x (steadyStep x c) writable-steady (linkSize x (steadyStep x c)) 40 refl
-      (header-steady x (told .unlisted)) w
+    pub past-steady : {output between : List ℕ} {past : ℕ}
+        → Wrote output between 0 past (linkBytes i (length p) x (steadyStep x c)) → past ≡ linkSize x (steadyStep x c)
+    past-steady {output} w =
+        past-link (tableOf l) i p output x (steadyStep x c) writable-steady (linkSize x (steadyStep x c)) start refl g w
 
-  pub sent-steady : {output between output′ : List ℕ} {past n : ℕ} → length p ≤ length output
-      → Wrote output between 0 past (linkBytes i (length p) x (steadyStep x c))
-      → Wrote between output′ past n (take (length p - 40) (drop 40 p))
-      → record { number = 0; kind = 3; length = n; output = output′; table = withContext (tableOf l) i (steadied x c) }
-      ≡ sendWith (tableOf l) i p output x
-  sent-steady {output} m w v =
-      sendWith-written (tableOf l) i p output x (steadyStep x c) writable-steady (linkSize x (steadyStep x c)) 40 refl
-      (header-steady x (told .unlisted)) step-steady 3 refl (omega (arith, m, room-steady)) w v
+    pub sent-steady : {output between output′ : List ℕ} {past n : ℕ} → length p ≤ length output
+        → Wrote output between 0 past (linkBytes i (length p) x (steadyStep x c))
+        → Wrote between output′ past n (take (length p - start) (drop start p))
+        → record { number = 0; kind = 3; length = n; output = output′; table = withContext (tableOf l) i (steadied x c) }
+        ≡ sendWith (tableOf l) i p output x
+    sent-steady {output} m w v =
+        sendWith-written (tableOf l) i p output x (steadyStep x c) writable-steady (linkSize x (steadyStep x c)) start refl g
+        step-steady 3 refl (omega (arith, m, room-steady)) w v
 
   -- what was stored of the numbers in the slices is the context that was read, moved on
   pub stored-steady : {after : Lent} → Puts l i (steadied x (contextIn (l .words) (l .shorts) (l .bytes) i)) after

@@ -70,8 +70,9 @@ fn send_steady(
         (lent (now (w .exit)) (now (h .exit)) (now (b .exit))) r (now (out .exit))
         (sendWith (tableOf (lent (now (w .entry)) (now (h .entry)) (now (b .entry)))) i (now (p .entry)) (now (out .entry)) x) ⌝ }
 {
+    let start = header_size(x);
     let past = put_steady(out, i as u8, x, c);
-    let length = put_all(out, past, &p[40..]);
+    let length = put_all(out, past, &p[start..]);
     store_steady(w, h, b, i, x);
     Outcome::Accepted(3, length)
 }

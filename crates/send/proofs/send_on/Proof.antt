@@ -11,7 +11,6 @@ use borrow.Author.Needs.{needs}
 use Rattle.send.proofs.send_on.Statement.{statement}
 use Rattle.send.proofs.send_on.Tie as tie
 
--- src/lib.rt:127:9
 abbrev handed : tie.Start → Lent
 handed s = lent (now (s .args .w)) (now (s .args .h)) (now (s .args .b))
 
@@ -23,7 +22,6 @@ list-at-requires c κs =
     let s = c .before .before .before .before .before .before .before in
     let z = fits-sizes (handed s) (s .pre .0) in (z .words, z .bytes, s .pre .1 .place)
 
--- src/lib.rt:128:9
 context-with-requires : tie.Need-context-with-requires
 context-with-requires c κs =
     let b3 = c .before .before .before in
@@ -31,11 +29,9 @@ context-with-requires c κs =
     let z = fits-sizes (handed s) (s .pre .0) in
     (z .words, z .shorts, z .bytes, s .pre .1 .place, b3 .list-at .ensures)
 
--- src/lib.rt:129:8
 is-steady-requires : tie.Need-is-steady-requires
 is-steady-requires c κs = search needs
 
--- src/lib.rt:130:9
 send-steady-requires : tie.Need-send-steady-requires
 send-steady-requires c κs =
     let b4 = c .before .before .before .before in
@@ -46,50 +42,39 @@ send-steady-requires c κs =
     let t = both (b5 .is-steady .result) (leb (length (a .p .now)) (length (a .out .now))) (b4 .if1 .taken) in
     (s .pre .0, s .pre .1, s .pre .2, b6 .context-with .ensures, sym (b5 .is-steady .ensures) ∙ t .0, leb-true _ _ (t .1))
 
--- src/lib.rt:130:9
 same-length : tie.Need-same-length
 same-length c = search needs
 
--- src/lib.rt:130:9
 same-length-2 : tie.Need-same-length-2
 same-length-2 c = search needs
 
--- src/lib.rt:130:9
 same-length-3 : tie.Need-same-length-3
 same-length-3 c = search needs
 
--- src/lib.rt:130:9
 same-length-4 : tie.Need-same-length-4
 same-length-4 c = search needs
 
--- src/lib.rt:130:9
 returns : tie.Need-returns
 returns c = search needs
 
--- src/lib.rt:132:5
 send-stepped-requires : tie.Need-send-stepped-requires
 send-stepped-requires c κs =
     let b5 = c .before .before .before .before .before in
     let s = b5 .before .before .before .before .before .before .before .before .before .before .before .before .before in
     (s .pre .0, s .pre .1)
 
--- src/lib.rt:112:1
 same-length-5 : tie.Need-same-length-5
 same-length-5 c = search needs
 
--- src/lib.rt:112:1
 same-length-6 : tie.Need-same-length-6
 same-length-6 c = search needs
 
--- src/lib.rt:112:1
 same-length-7 : tie.Need-same-length-7
 same-length-7 c = search needs
 
--- src/lib.rt:112:1
 same-length-8 : tie.Need-same-length-8
 same-length-8 c = search needs
 
--- src/lib.rt:112:1
 returns-2 : tie.Need-returns-2
 returns-2 c = search needs
 
