@@ -33,7 +33,7 @@ fn same_bit(a: bool, b: bool) -> bool
 }
 
 // Whether the fields that no CU and no CR carries are as they were.
-fn same_constants(h: Header, c: CompressorContext) -> bool
+pub fn same_constants(h: Header, c: CompressorContext) -> bool
     ensures { λ r. ⌜ r ≡ sameConstants h c ⌝ }
 {
     let padding = same_bit(h.rtp.padding, c.rtp.padding);

@@ -17,7 +17,7 @@ use context::step::Kind;
 use context::step::Step;
 use packet::header::Header;
 
-fn next_sequence(s: u8) -> u8
+pub fn next_sequence(s: u8) -> u8
     ensures { λ r. ⌜ r ≡ nextSequence s ⌝ }
 {
     (s % Link::SEQUENCES + 1) % Link::SEQUENCES

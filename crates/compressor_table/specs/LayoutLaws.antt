@@ -180,7 +180,7 @@ module _ (w h b : List ℕ) (i : ℕ) where
   unfolding contextOf
   shorts-forth = refl
 
-  bytes-forth : Typed (row b i 0 20) → bytesOf (contextIn w h b i) ≡ row b i 0 20
+  pub bytes-forth : Typed (row b i 0 20) → bytesOf (contextIn w h b i) ≡ row b i 0 20
   unfolding contextOf
   bytes-forth t = rw (
     usage-forth _ (t .status),

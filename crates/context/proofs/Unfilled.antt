@@ -1,20 +1,21 @@
--- Iarwennol. A sound context that was never filled holds 0 in every field, so its status is all there is to it. Assumes nothing.
--- Used by the laws of saved tables, where such a context has no header.
+-- Iarwennol. A sound context that was never filled holds 0 in every field, so its status is all there is to it; and a sound list
+-- without a word holds 0 in every place. Assumes nothing.
+-- Used by the laws of saved tables, where such a context has no header, and by the short way of a send, which compares no words.
 use Prim.Native.Nat.{ℕ}
-use mathlib.Core.Path.{_≡_, refl, ap, _∙_}
+use mathlib.Core.Path.{_≡_, refl, sym, ap, _∙_}
 use mathlib.Core.Bool.{true, false, not, and-eq-true-iff}
 use mathlib.Core.List.{List, [], _∷_}
-use borrow.Author.Tests.{eqb-true, not-true}
-use lib.Dec.{eqb}
-use lib.ListN.{length, replicate}
+use borrow.Author.Tests.{eqb-true, eq-eqb, not-true}
+use lib.Dec.{eqb, leb}
+use lib.ListN.{length, drop, replicate}
 use Rattle.packet.proofs.Chain.{all-of-eight}
 use Rattle.packet.specs.Csrc.{noList}
 use Rattle.packet.specs.declared.csrc.Csrc.{Csrc}
 use Rattle.packet.specs.declared.header.Flow.{Flow}
 use Rattle.packet.specs.declared.header.Ip.{Ip}
 use Rattle.packet.specs.declared.header.Rtp.{Rtp}
-use Rattle.context.specs.Sound.{isZero, zeros, zeroFlow, zeroIp, zeroRtp, zeroList, zeroDeltas, zeroLink, unfilledSound}
-use Rattle.context.specs.Sound.{noFlow, noIp, noRtp}
+use Rattle.context.specs.Sound.{isZero, zeros, soundList, zeroFlow, zeroIp, zeroRtp, zeroList, zeroDeltas, zeroLink}
+use Rattle.context.specs.Sound.{unfilledSound, noFlow, noIp, noRtp}
 use Rattle.context.specs.declared.kept.Deltas.{Deltas}
 use Rattle.context.specs.declared.kept.Link.{Link}
 use Rattle.context.specs.declared.decompressor.Status.{Status}
@@ -83,6 +84,13 @@ zero-list l e n =
       count = eqb-true (l .count) 0 (p .0) i;
       words = (zero-words (l .words) (p .1) ∙ ap (λ (k : ℕ). replicate k 0) n) i;
     }
+
+-- a sound list without a word has nothing in its places either
+pub soundList-none : (l : Csrc) → soundList l ≡ true → l .count ≡ 0 → length (l .words) ≡ 15 → l ≡ noList
+unfolding soundList zeroList
+soundList-none l e z n =
+    let p = and-eq-true-iff (leb (l .count) 15) (zeros (drop (l .count) (l .words))) .0 e .1 in
+    zero-list l (rw (eq-eqb (l .count) 0 z) (ap (λ (k : ℕ). zeros (drop k (l .words))) (sym z) ∙ p)) n
 
 zero-deltas : (d : Deltas) → zeroDeltas d ≡ true → d ≡ record { id = 0; timestamp = 0 }
 zero-deltas d e =

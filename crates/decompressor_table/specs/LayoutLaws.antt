@@ -198,7 +198,7 @@ made : (n n′ k k′ : ℕ) (l l′ : List DecompressorContext) → n ≡ n′ 
     (record { settings = record { repeats = n′; contexts = k′ }; contexts = l′ })
 made n n′ k k′ l l′ d e f = rw (d, e, f)
 
-abbrev put : Lent → (i : ℕ) → DecompressorContext → Lent
+abbrev pub put : Lent → (i : ℕ) → DecompressorContext → Lent
 put l i c = lent (replaced (l .words) i 0 (wordsOf c)) (replaced (l .shorts) i 0 (shortsOf c)) (replaced (l .bytes) i 0 (bytesOf c))
 
 module _ (l : Lent) (i : ℕ) (c : DecompressorContext) (s : i < 64) (z : Sizes l) (n : length (c .csrc .words) ≡ 15) where
@@ -255,10 +255,10 @@ module _ (l : Lent) (i : ℕ) (c : DecompressorContext) (s : i < 64) (z : Sizes 
       (every-made (typed (put l i c .bytes)) 64 (typed-written e))
 
 -- a row that is replaced by itself
-lent-same : (l : Lent) (w h b : List ℕ) → w ≡ l .words → h ≡ l .shorts → b ≡ l .bytes → lent w h b ≡ l
+pub lent-same : (l : Lent) (w h b : List ℕ) → w ≡ l .words → h ≡ l .shorts → b ≡ l .bytes → lent w h b ≡ l
 lent-same l w h b p q r = rw (p, q, r)
 
-put-same : (l : Lent) (i : ℕ) → i < 64 → every (typed (l .bytes)) 64 ≡ true
+pub put-same : (l : Lent) (i : ℕ) → i < 64 → every (typed (l .bytes)) 64 ≡ true
     → put l i (contextIn (l .words) (l .shorts) (l .bytes) i) ≡ l
 put-same l i s e =
     let t = typedRow-true (row (l .bytes) i 0 13) (every-at (typed (l .bytes)) 64 i s e) in

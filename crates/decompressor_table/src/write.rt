@@ -16,7 +16,7 @@ fn status_number(s: Status) -> u8
     }
 }
 
-fn bit(b: bool) -> u8
+pub fn bit(b: bool) -> u8
     ensures { λ r. ⌜ r ≡ bit b ⌝ }
 {
     if b { 1 } else { 0 }

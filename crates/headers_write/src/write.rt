@@ -83,3 +83,15 @@ pub fn put_printed(out: &mut [u8], at: usize, h: Header, total: u16) -> usize
     let checksum = ip_checksum(h, total);
     put_header(out, at, h, total, total - 20, checksum)
 }
+
+// The same for a header without a CSRC list: straight, so that it becomes part of its call.
+pub fn put_bare(out: &mut [u8], at: usize, h: Header, total: u16) -> usize
+    requires { ⌜ Narrow h × (20 ≤ total) × (h .csrc .count ≡ 0) × (at + headerSize h ≤ length (now out)) ⌝ }
+    ensures { λ r. ⌜ (r ≡ at + headerSize h) × Wrote (now (out .entry)) (now (out .exit)) at r (printed h total) ⌝ }
+{
+    let checksum = ip_checksum(h, total);
+    let at = put_ip_front(out, at, h, total);
+    let at = put_ip_back(out, at, h, checksum);
+    let at = put_udp(out, at, h, total - 20);
+    put_rtp(out, at, h)
+}

@@ -5,7 +5,7 @@ use mathlib.Core.Path.{_≡_, refl, ap}
 use mathlib.Core.Bool.{Bool, true, _&&_, and-true, and-assoc, and-eq-true-iff}
 use mathlib.Core.List.{List, [], _∷_}
 use native.Mathlib.Numerals.{add-one}
-use borrow.Author.Tests.{eqb-true}
+use borrow.Author.Tests.{eqb-true, eq-eqb}
 use lib.Dec.{eqb}
 use lib.ListN.{length, getD, drop, drop-of-length-le}
 use lib.Seq.{drop-cons}
@@ -21,6 +21,10 @@ same-true (x ∷ xs) [] e = cc
 same-true (x ∷ xs) (y ∷ ys) e =
     let t = and-eq-true-iff (eqb x y) (same xs ys) .0 e in
     rw (eqb-true x y (t .0), same-true xs ys (t .1))
+
+pub same-refl : (l : List ℕ) → same l l ≡ true
+same-refl [] = refl
+same-refl (x ∷ l) = rw (eq-eqb x x refl, same-refl l)
 
 -- one place further, and past the last, for the loop that compares
 module _ (a b : List ℕ) (i : ℕ) (ok : Bool) where
@@ -38,3 +42,7 @@ unfolding sameList
 sameList-true a b e =
     let t = and-eq-true-iff (eqb (a .count) (b .count)) (same (a .words) (b .words)) .0 e in
     λ i. record { count = eqb-true (a .count) (b .count) (t .0) i; words = same-true (a .words) (b .words) (t .1) i }
+
+pub sameList-refl : (l : Csrc) → sameList l l ≡ true
+unfolding sameList
+sameList-refl l = rw (eq-eqb (l .count) (l .count) refl, same-refl (l .words))

@@ -8,7 +8,7 @@ use native.Mathlib.Numerals.{add-one}
 use native.Mathlib.Nat.{add-zero, zero-add}
 use native.Mathlib.Omega.{arith}
 use lib.ListN.{length, getD, set, take, drop, replicate, length-set, drop-of-length-le, replicate-append-replicate}
-use lib.Seq.{drop-cons, getD-set-same, getD-set-other, set-getD, take-suc-set, take-all}
+use lib.Seq.{drop-cons, getD-set-same, getD-set-other, set-getD, set-set, set-comm, take-suc-set, take-all}
 use Rattle.planes.specs.Planes.{cell, row, replaced, places}
 
 pub length-replaced : (vs l : List ℕ) (i f : ℕ) → length (replaced l i f vs) ≡ length l
@@ -54,6 +54,35 @@ pub replaced-row : (l : List ℕ) (i f n : ℕ) → replaced l i f (row l i f n)
 replaced-row l i f zero = refl
 replaced-row l i f (suc n) =
     ap (λ (k : List ℕ). replaced k i (suc f) (row l i (suc f) n)) (set-getD l (64 * f + i) 0) ∙ replaced-row l i (suc f) n
+
+---- one number of a row written
+
+-- a number before the planes that are written can be written first
+set-before : (vs l : List ℕ) (i f x v : ℕ) → x < 64 * f → set (replaced l i f vs) x v ≡ replaced (set l x v) i f vs
+set-before [] l i f x v h = refl
+set-before (u ∷ vs) l i f x v h =
+    set-before vs (set l (64 * f + i) u) i (suc f) x v (omega arith)
+    ∙ ap (λ (k : List ℕ). replaced k i (suc f) vs) (set-comm l (64 * f + i) x u v (λ e. omega arith))
+
+-- a row with another number in plane f + g
+replaced-set : (vs l : List ℕ) (i f g v : ℕ) → i < 64 → g < length vs
+    → set (replaced l i f vs) (64 * (f + g) + i) v ≡ replaced l i f (set vs g v)
+replaced-set [] l i f g v a h = absurd (omega arith)
+replaced-set (u ∷ vs) l i f zero v a h =
+    ap (λ (x : ℕ). set (replaced (set l (64 * f + i) u) i (suc f) vs) (64 * x + i) v) (add-zero f)
+    ∙ set-before vs (set l (64 * f + i) u) i (suc f) (64 * f + i) v (omega arith)
+    ∙ ap (λ (k : List ℕ). replaced k i (suc f) vs) (set-set l (64 * f + i) u v)
+replaced-set (u ∷ vs) l i f (suc g) v a h =
+    ap (λ (x : ℕ). set (replaced (set l (64 * f + i) u) i (suc f) vs) (64 * x + i) v) (add-suc f g)
+    ∙ replaced-set vs (set l (64 * f + i) u) i (suc f) g v a (omega arith)
+  where
+    add-suc : (f g : ℕ) → f + suc g ≡ suc f + g
+    add-suc f g = omega arith
+
+-- the same of a list that is known to be one with a row replaced
+pub set-replaced : (k l vs : List ℕ) (i f v : ℕ) → k ≡ replaced l i 0 vs → i < 64 → f < length vs
+    → set k (64 * (0 + f) + i) v ≡ replaced l i 0 (set vs f v)
+set-replaced k l vs i f v e s h = ap (λ (x : List ℕ). set x (64 * (0 + f) + i) v) e ∙ replaced-set vs l i 0 f v s h
 
 ---- a loop that replaces a row
 

@@ -2,3 +2,4 @@
 pub mod NarrowLaws
 pub mod Placing
 pub mod Arriving
+pub mod SteadyWay

@@ -1,2 +1,3 @@
 pub mod Taken
 pub mod TakenLaws
+pub mod Steady

@@ -16,9 +16,13 @@ use Rattle.receive.specs.declared.settle.Taken.{Taken}
 use Rattle.receive.specs.declared.settle.Arrived.{Arrived}
 use Rattle.decompressor.specs.declared.answer.Outcome.{Outcome}
 use Rattle.decompressor.specs.Answer.{Result, refused, delivered, numberOf, lengthOf, said}
-use Rattle.decompressor.specs.Receive.{packetOf, fullTable, receivePlain, settleRead}
+use Rattle.decompressor.specs.Receive.{packetOf, fullTable, receivePlain, settleRead, receiveOn}
 use Rattle.links.specs.Fh.{fhOf}
-use Rattle.decompressor.specs.Table.{contextAt, withContext}
+use Rattle.links.specs.Head.{headOf}
+use Rattle.decompressor.specs.Table.{contextAt, withContext, Sound}
+use Rattle.decompressor.specs.declared.old.OldForm.{OldForm}
+use Rattle.planes.specs.Planes.{Lent}
+use Rattle.decompressor_table.specs.Layout.{contextIn, tableOf, Fits}
 
 -- what became of a packet, with the output that it left, and the context set into a table at place i
 abbrev pub placed : Taken → Table → (i : ℕ) → (output : List ℕ) → Result
@@ -53,6 +57,21 @@ pub record HeadRead (n : ℕ) (c : DecompressorContext) (h : Head) (s : List ℕ
   pub link : h .flags .low < 16
   pub within : h .place .cursor .at ≤ length s
   pub short : length s ≤ 1500
+
+-- what is known once flag byte and context are found: the bytes s have the flag byte h, and the sound table in the slices l has the
+-- context c at place i
+pub record Found (l : Lent) (i : ℕ) (c : DecompressorContext) (h : Head) (s : List ℕ) : Type 0 where
+  pub fits : Fits l
+  pub sound : Sound (tableOf l)
+  pub place : i < 64
+  pub context : c ≡ contextIn (l .words) (l .shorts) (l .bytes) i
+  pub head : h ≡ headOf s
+  pub some : 1 ≤ length s
+  pub short : length s ≤ 1500
+
+-- rule 3.3: a CU or CR whose context, at place i, and flag byte were found
+abbrev pub foundOn : OldForm → (kind : ℕ) → Table → (i : ℕ) → (s output : List ℕ) → Result
+foundOn old kind t i s output = receiveOn old (contextAt t i .status) kind t i (headOf s) s output
 
 -- a full header that was judged good, on the table t
 abbrev pub acceptFull : Table → (s output : List ℕ) → Result

@@ -16,10 +16,12 @@ ghost use Rattle.decompressor.specs.Receive.{receiveParts, receiveOld, receiveO
 ghost use Rattle.planes.specs.Planes.{lent};
 ghost use Rattle.decompressor_table.specs.Layout.{tableOf, Fits};
 ghost use Rattle.decompressor_table.specs.Calls.{Gives};
-ghost use Rattle.receive.specs.Taken.{Takes, Arrives, leftBroken, HeadRead};
+ghost use Rattle.receive.specs.Taken.{Takes, Arrives, leftBroken, HeadRead, Found, foundOn};
 use crate::settle::Arrived;
 use crate::settle::Taken;
 use crate::settle::settle_read;
+use crate::steady::read_steady;
+use crate::steady::receive_steady;
 use context::decompressor::DecompressorContext;
 use context::decompressor::Status;
 use decompress::apply::apply;
@@ -144,7 +146,33 @@ fn receive_on(
     }
 }
 
-// A CU or CR: its context is read out once and stored back once.
+// A CU or CR on the context that was found, whatever its form: the context is stored back once.
+fn receive_found(
+    old: OldForm,
+    kind: u32,
+    w: &mut [u32],
+    h: &mut [u16],
+    b: &mut [u8],
+    i: usize,
+    c: DecompressorContext,
+    head: Head,
+    s: &[u8],
+    out: &mut [u8],
+) -> Outcome
+    requires { ⌜ Found (lent (now w) (now h) (now b)) i c head (now s) ⌝ }
+    ensures { λ r. ⌜ Gives (lent (now (w .entry)) (now (h .entry)) (now (b .entry)))
+        (lent (now (w .exit)) (now (h .exit)) (now (b .exit))) r (now (out .exit))
+        (foundOn old kind (tableOf (lent (now (w .entry)) (now (h .entry)) (now (b .entry)))) i (now (s .entry))
+        (now (out .entry))) ⌝ }
+{
+    let taken = receive_on(old, kind, b[Layout::REPEATS], c, head, s, out);
+    let outcome = taken.outcome;
+    let after = taken.context;
+    put_context(w, h, b, i, after);
+    outcome
+}
+
+// A CU or CR: its context is read out once. What most arrivals are has a short way, so that it does not pay for the rest.
 pub fn receive_compressed(
     old: OldForm,
     kind: u32,
@@ -175,9 +203,9 @@ pub fn receive_compressed(
     }
     let i = number as usize;
     let context = context_at(w, h, b, i);
-    let taken = receive_on(old, kind, b[Layout::REPEATS], context, head, s, out);
-    let outcome = taken.outcome;
-    let after = taken.context;
-    put_context(w, h, b, i, after);
-    outcome
+    let steady = read_steady(kind, context, head, s, out.len());
+    if steady.goes {
+        return receive_steady(w, h, b, i, context, head, steady, s, out);
+    }
+    receive_found(old, kind, w, h, b, i, context, head, s, out)
 }

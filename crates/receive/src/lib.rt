@@ -4,12 +4,14 @@
 // that an arrival does, is `decompressor`'s. What becomes of one context is decided in `context` and `decompress`, what bytes mean
 // in `headers` and `links`; here a link packet finds its context, which is read out and stored back, and the rebuilt packet is
 // judged and finds its output.
-// Read `receive` first, then `compressed`, `settle` and `judge`.
+// Read `receive` first, then `compressed`, `settle` and `judge`. `steady` is a short way for what most arrivals are
+// (`decompressor_steady`): it is proved to do what they do.
 mod compressed;
 mod full;
 mod judge;
 mod output;
 mod settle;
+mod steady;
 
 ghost use mathlib.Core.Path.{_≡_};
 ghost use Prim.Native.Nat.{_≤_};

@@ -7,6 +7,7 @@ ghost use Rattle.packet.specs.Ranges.{Narrow};
 ghost use Rattle.decompressor.specs.Receive.{packetOf};
 use bytes::put::put_all;
 use headers_read::read::header_size;
+use headers_write::write::put_bare;
 use headers_write::write::put_printed;
 use packet::header::Header;
 
@@ -24,5 +25,15 @@ pub fn put_packet(out: &mut [u8], h: Header, rest: &[u8], size: usize) -> usize
     ensures { λ r. ⌜ Wrote (now (out .entry)) (now (out .exit)) 0 r (packetOf h (now (rest .entry))) ⌝ }
 {
     let past = put_printed(out, 0, h, size as u16);
+    put_all(out, past, rest)
+}
+
+// The same where the header has no CSRC list.
+pub fn put_bare_packet(out: &mut [u8], h: Header, rest: &[u8], size: usize) -> usize
+    requires { ⌜ Narrow h × (h .csrc .count ≡ 0) × (size ≡ headerSize h + length (now rest)) × (size ≤ 1500)
+        × (size ≤ length (now out)) ⌝ }
+    ensures { λ r. ⌜ Wrote (now (out .entry)) (now (out .exit)) 0 r (packetOf h (now (rest .entry))) ⌝ }
+{
+    let past = put_bare(out, 0, h, size as u16);
     put_all(out, past, rest)
 }

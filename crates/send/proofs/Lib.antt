@@ -1,3 +1,4 @@
 -- Iarwennol. Laws that only the proofs of this crate cite.
 mod Sending
 mod Ways
+mod Steady

@@ -19,6 +19,7 @@ use Rattle.planes.specs.Planes.{Lent, lent}
 use Rattle.compressor_table.specs.Layout.{tableOf}
 use Rattle.compressor_table.specs.LayoutLaws.{sound-fits, length-tableOf}
 use Rattle.compressor_table.specs.CallsLaws.{gives-kept, gives-by}
+use Rattle.compressor_steady.proofs.Unlisted.{unlisted-lent}
 use Rattle.send.proofs.Ways.{way-unsound, way-length, way-plain, way-nowhere, way-at, way-on}
 use Rattle.send.proofs.send.Statement.{statement}
 use Rattle.send.proofs.send.Tie as tie
@@ -144,20 +145,18 @@ send-on-requires c κs =
     let b23 = b18 .before .before .before .before .before in
     let b27 = b23 .before .before .before .before in
     let s = b27 in
-    let a = s .args in (
-      sound-fits (handed s) (sym (b18 .sound .ensures) ∙ not-false _ (b17 .if1 .left)),
+    let a = s .args in
+    let sounds = sym (b18 .sound .ensures) ∙ not-false _ (b17 .if1 .left) in
+    let k = canSend-on (held s) (a .p .now) (b5 .i .given .0 .0) (length-tableOf (handed s) (sound-fits (handed s) sounds))
+    (allBytes-elements (a .p .now) (λ j. omega (arith, b23 .shared-slice-known .given j)))
+    (way-on (held s) (a .p .now) (a .out .now) sounds (not-false (lengthAllowed (length (a .p .now))) (b16 .if2 .left))
+    (sym (b15 .is-compressible .ensures) ∙ not-false _ (b14 .if3 .left))
+    (b5 .i .given .0 .0)
+    (sym (rw (b12 .header-with .ensures) at (b7 .find .ensures)) ∙ ap placeIn (b5 .i .given .1))) in (
+      sound-fits (handed s) sounds,
+      rw (b12 .header-with .ensures) k,
       rw (b12 .header-with .ensures)
-          (canSend-on (held s) (a .p .now) (b5 .i .given .0 .0) (length-tableOf (handed s)
-          (sound-fits (handed s) (sym (b18 .sound .ensures) ∙ not-false _ (b17 .if1 .left))))
-          (allBytes-elements (a .p .now) (λ j. omega (
-            arith,
-            b23 .shared-slice-known .given j,
-          )))
-          (way-on (held s) (a .p .now) (a .out .now) (sym (b18 .sound .ensures) ∙ not-false _ (b17 .if1 .left)) (not-false
-          (lengthAllowed (length (a .p .now))) (b16 .if2 .left))
-          (sym (b15 .is-compressible .ensures) ∙ not-false _ (b14 .if3 .left))
-          (b5 .i .given .0 .0)
-          (sym (rw (b12 .header-with .ensures) at (b7 .find .ensures)) ∙ ap placeIn (b5 .i .given .1)))),
+          (unlisted-lent (handed s) (b5 .i .given .0 .0) (a .p .now) (sound-fits (handed s) sounds) (k .place) sounds),
     )
 
 enum-told : tie.Need-enum-told

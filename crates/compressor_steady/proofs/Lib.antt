@@ -1,0 +1,4 @@
+pub mod Rules
+pub mod Stored
+pub mod Written
+pub mod Unlisted
