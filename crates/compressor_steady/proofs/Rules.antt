@@ -14,7 +14,8 @@ use Rattle.packet.specs.declared.header.Header.{Header}
 use Rattle.context.specs.Field.{offPattern, counted, isDue}
 use Rattle.context.specs.Compressor.{sameConstants, begun, reset, judged, adoptsId, adoptsTimestamp, differences, dueNow}
 use Rattle.context.specs.Compressor.{anyDue, kindOf, dueAfter, deltasAfter, moved, sentWith, stepOf, nothingDue, Going}
-use Rattle.compressor_steady.specs.Steady.{isLive, idle, onPattern, steady, steadied, steadyStep}
+use Rattle.context.specs.Sound.{zeroDue}
+use Rattle.compressor_steady.specs.Steady.{isLive, onPattern, steady, steadied, steadyStep}
 use Rattle.context.specs.declared.kept.Deltas.{Deltas}
 use Rattle.context.specs.declared.compressor.Usage.{Usage}
 use Rattle.context.specs.declared.compressor.Usage.the-variants.{Empty, Live}
@@ -48,7 +49,7 @@ due-of : (d : Due) → d .full ≡ 0 → d .id ≡ 0 → d .sequence ≡ 0 → d
     → d .dts ≡ 0 → d ≡ noDue
 due-of d a b e f g h i j = rw (a, b, e, f, g, h, i, j)
 
-idle-true : (d : Due) → idle d ≡ true → d ≡ noDue
+idle-true : (d : Due) → zeroDue d ≡ true → d ≡ noDue
 idle-true d e =
     let a = all-of-eight (eqb (d .full) 0) (eqb (d .id) 0) (eqb (d .sequence) 0) (eqb (d .timestamp) 0) (eqb (d .payload) 0)
     (eqb (d .list) 0) (eqb (d .did) 0) (eqb (d .dts) 0) e in
@@ -65,7 +66,7 @@ four a b c d e =
 pub steady-true : (h : Header) (c : CompressorContext) → steady h c ≡ true → Steady h c
 unfolding steady
 steady-true h c e =
-    let p = four (isLive (c .status)) (sameConstants h c) (idle (c .due)) (onPattern h c) e in
+    let p = four (isLive (c .status)) (sameConstants h c) (zeroDue (c .due)) (onPattern h c) e in
     let a = all-of-eight true true (eqb (difference 16 (c .ip .id) (h .ip .id)) (c .deltas .id))
     (eqb (difference 16 (c .rtp .sequence) (h .rtp .sequence)) 1)
     (eqb (difference 32 (c .rtp .timestamp) (h .rtp .timestamp)) (c .deltas .timestamp))

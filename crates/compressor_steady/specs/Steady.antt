@@ -7,9 +7,9 @@ use Rattle.codes.specs.Difference.{difference}
 use Rattle.packet.specs.declared.header.Header.{Header}
 use Rattle.context.specs.Field.{nextSequence}
 use Rattle.context.specs.Compressor.{compressedRtp, sameConstants, nothingDue, partsOf, Going}
+use Rattle.context.specs.Sound.{zeroDue}
 use Rattle.context.specs.declared.compressor.Usage.{Usage}
 use Rattle.context.specs.declared.compressor.Usage.the-variants.{Empty, Live}
-use Rattle.context.specs.declared.compressor.Due.{Due}
 use Rattle.context.specs.declared.compressor.CompressorContext.{CompressorContext}
 
 ---- When a packet is steady
@@ -17,18 +17,6 @@ use Rattle.context.specs.declared.compressor.CompressorContext.{CompressorConte
 abbrev pub isLive : Usage → Bool
 isLive Empty = false
 isLive Live = true
-
--- rules 8.2, 8.6, 8.7: no counter is above 0
-abbrev pub idle : Due → Bool
-idle d =
-    eqb (d .full) 0
-    && eqb (d .id) 0
-    && eqb (d .sequence) 0
-    && eqb (d .timestamp) 0
-    && eqb (d .payload) 0
-    && eqb (d .list) 0
-    && eqb (d .did) 0
-    && eqb (d .dts) 0
 
 -- rules 8.5, 8.7: ID, sequence and timestamp are one delta on, payload type and list are as they were. Of lists only that there is
 -- none at either end is looked at
@@ -41,8 +29,9 @@ onPattern h c =
     && eqb (h .csrc .count) 0
     && eqb (c .csrc .count) 0
 
+-- rules 8.2, 8.6, 8.7: besides, no counter is above 0
 unfoldable pub steady : Header → CompressorContext → Bool
-steady h c = isLive (c .status) && sameConstants h c && idle (c .due) && onPattern h c
+steady h c = isLive (c .status) && sameConstants h c && zeroDue (c .due) && onPattern h c
 
 ---- What becomes of it
 

@@ -1,5 +1,6 @@
 ghost use mathlib.Core.Path.{_≡_};
-ghost use Rattle.compressor_steady.specs.Steady.{isLive, idle, onPattern, steady};
+ghost use Rattle.context.specs.Sound.{zeroDue};
+ghost use Rattle.compressor_steady.specs.Steady.{isLive, onPattern, steady};
 use codes::difference::difference16;
 use codes::difference::difference32;
 use compress::run::same_constants;
@@ -18,7 +19,7 @@ fn is_live(s: Usage) -> bool
 }
 
 fn is_idle(d: Due) -> bool
-    ensures { λ r. ⌜ r ≡ idle d ⌝ }
+    ensures { λ r. ⌜ r ≡ zeroDue d ⌝ }
 {
     (d.full == 0)
         & (d.id == 0)
