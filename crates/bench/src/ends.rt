@@ -5,7 +5,7 @@ use bench_timed::ends::{copy_timed, receive_timed, send_timed};
 use crtp::{CompressorLayout, DecompressorLayout};
 
 // Microseconds of a round's 32,000 sends, receives and copies.
-#[derive(Drop)]
+#[derive(Clone, Copy)]
 pub struct Times {
     pub send: u64,
     pub receive: u64,
@@ -13,7 +13,7 @@ pub struct Times {
 }
 
 // What a round through both ends counted and measured.
-#[derive(Drop)]
+#[derive(Clone, Copy)]
 pub struct Ends {
     pub tally: Tally,
     pub times: Times,

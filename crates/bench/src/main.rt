@@ -3,6 +3,8 @@
 // Without an argument it prints what went over the link, which is the same on every machine; with the argument `time` also
 // picoseconds a packet, best of nine rounds. The packets are described in `bench/README.md`: the second program makes the same.
 // Read `round` first; what is timed is in crate `bench_timed`.
+#![tactic(auto)]
+
 mod ends;
 mod round;
 mod show;

@@ -6,14 +6,14 @@ use crtp::{CompressorLayout, DecompressorLayout};
 use endpoint::Totals;
 
 // Microseconds of a round's 32,000 calls from the wire and from the radio.
-#[derive(Drop)]
+#[derive(Clone, Copy)]
 pub struct Ways {
     pub wire: u64,
     pub radio: u64,
 }
 
 // What a round through an endpoint that sends to itself counted and measured.
-#[derive(Drop)]
+#[derive(Clone, Copy)]
 pub struct Through {
     pub tally: Tally,
     pub ways: Ways,

@@ -4,6 +4,8 @@
 // which are the same on every machine; with the argument `time` also picoseconds a call, best of nine rounds. What arrives is
 // described in `bench/README.md`: the second program receives the same.
 // Read `round` first.
+#![tactic(auto)]
+
 mod frames;
 mod round;
 mod show;

@@ -50,7 +50,7 @@ fn receive_again(w: Words, h: Shorts, b: Bytes, link: &[u8], out: &mut [u8], cou
 }
 
 // Calls that were accepted, the sum of what the last one gave out, and the microseconds that all took.
-#[derive(Drop)]
+#[derive(Clone, Copy)]
 pub struct Round {
     pub accepted: u32,
     pub last: u16,

@@ -2,6 +2,8 @@
 //
 // Which packets they are is said in `bench/README.md`; the second program makes the same. The clock is the business of `bench`.
 // Read `turns::send_all` first.
+#![tactic(auto)]
+
 mod packets;
 pub mod tally;
 pub mod turns;

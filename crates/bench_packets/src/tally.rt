@@ -1,7 +1,7 @@
 use crate::turns::{wide, within};
 
 // What went over the link in a round: packets of each type, header bytes, the sum of all bytes; and packets rebuilt exactly.
-#[derive(Drop)]
+#[derive(Clone, Copy)]
 pub struct Tally {
     pub full: u32,
     pub udp: u32,

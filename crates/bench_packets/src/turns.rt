@@ -35,7 +35,7 @@ pub fn make(streams: u32, batch: u32, packets: &mut [u8]) {
 }
 
 // What a send gave out: its type and its length, 0 and 0 where it was refused.
-#[derive(Drop)]
+#[derive(Clone, Copy)]
 pub struct Given {
     pub kind: u8,
     pub length: usize,

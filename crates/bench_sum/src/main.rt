@@ -4,6 +4,8 @@
 // done before. Without an argument it prints the last sum, which is the same on every machine; with the argument `time` also
 // picoseconds a sum, best of nine rounds. The bytes are described in `bench/README.md`: the second program sums the same.
 // Read `round` first.
+#![tactic(auto)]
+
 mod former;
 mod round;
 mod show;

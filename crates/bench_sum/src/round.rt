@@ -43,7 +43,7 @@ fn after_each(bytes: &[u8], size: usize, count: u32) -> u16
 }
 
 // The last sum both ways, and the microseconds that each took.
-#[derive(Drop)]
+#[derive(Clone, Copy)]
 pub struct Round {
     pub at_end: u16,
     pub after_each: u16,

@@ -5,3 +5,4 @@
 // `specs/Earlier.antt` has the claim in the words of the rules, for lists without saves and loads, and `specs/Literal.antt` in a
 // reading that undoes more with each load; the claim implies both.
 // What a packet is, how it is compressed and what "right" means is left to the crate that names its two ends.
+#![tactic(auto)]

@@ -4,7 +4,7 @@ ghost use Rattle.codes.specs.Code.{bytes_of, code_of, code_in, rows};
 ghost use Rattle.codes.specs.Difference.{has_code};
 
 // The code of a difference, as it is written on the link.
-#[derive(Drop)]
+#[derive(Clone, Copy)]
 pub enum Code {
     One(u8),
     Two(u8, u8),

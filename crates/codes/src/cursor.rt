@@ -8,37 +8,37 @@ use crate::difference::{difference16, difference32};
 // A place in a packet: the index of the next byte to be read.
 //
 // Each method hands back the field that stands there with the cursor moved past it, or says why it cannot.
-#[derive(Drop)]
+#[derive(Clone, Copy)]
 pub struct Cursor {
     pub at: usize,
 }
 
-#[derive(Drop)]
+#[derive(Clone, Copy)]
 pub enum ReadByte {
     Byte(u8, Cursor),
     Cut,
 }
 
-#[derive(Drop)]
+#[derive(Clone, Copy)]
 pub enum ReadWord {
     Word(u16, Cursor),
     Cut,
 }
 
-#[derive(Drop)]
+#[derive(Clone, Copy)]
 pub enum ReadLong {
     Long(u32, Cursor),
     Cut,
 }
 
-#[derive(Drop)]
+#[derive(Clone, Copy)]
 pub enum ReadDelta16 {
     Delta(u16, Cursor),
     Cut,
     Unused,
 }
 
-#[derive(Drop)]
+#[derive(Clone, Copy)]
 pub enum ReadDelta32 {
     Delta(u32, Cursor),
     Cut,
@@ -46,7 +46,7 @@ pub enum ReadDelta32 {
 }
 
 // A difference code, not yet reduced to a field: so much up, or so much down.
-#[derive(Drop)]
+#[derive(Clone, Copy)]
 pub enum ReadCode {
     Up(u32, Cursor),
     Down(u16, Cursor),

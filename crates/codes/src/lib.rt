@@ -3,6 +3,8 @@
 // `difference` is arithmetic modulo the field's width, `code` turns a difference into its bytes, and `cursor` reads bytes,
 // numbers and differences from left to right. Which field is sent when is not decided here.
 // Read `specs/Code.antt` first: it has the table of codes, which both directions follow.
+#![tactic(auto)]
+
 pub mod code;
 pub mod cursor;
 pub mod difference;

@@ -1,6 +1,8 @@
 // Prints the code of the first and last difference of each row of the table, and reads each code back.
 //
 // What it prints is compared with the table in the rules, which was written down by hand.
+#![tactic(auto)]
+
 use codes::code::Code;
 use codes::cursor::{Cursor, ReadDelta32};
 

@@ -3,6 +3,8 @@
 // Each function equals the definition of the same name in `context`'s `specs/Compressor.antt`: read that first, then
 // `step::first_packet`, `step::next_packet` and `run::request`. Which context a packet takes, and its bytes, are the
 // business of the crates above.
+#![tactic(auto)]
+
 pub mod due;
 pub mod judge;
 pub mod run;

@@ -3,6 +3,8 @@
 // Here a table is a value. The calls take it in the caller's memory: `compressor_table` says which table three slices hold, and
 // `compressor_places`, `send` and `request` have the calls, each equal to its definition here.
 // Read `specs/Send.antt` first: `send_of` says all that a send does.
+#![tactic(auto)]
+
 pub mod answer;
 pub mod lookup;
 pub mod table;

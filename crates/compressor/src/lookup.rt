@@ -1,5 +1,5 @@
 // Where a packet's context stands.
-#[derive(Drop)]
+#[derive(Clone, Copy)]
 pub enum Found {
     At(usize),
     Nowhere,

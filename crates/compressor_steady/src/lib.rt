@@ -4,6 +4,8 @@
 // By the rules of `context` a send looks at every field of a context and stores them all. Here a steady packet is told from others,
 // its bytes are written, and the seven numbers that it changes are stored; `proofs/Rules.antt` has that the rules do the same.
 // `send` takes this way where it can, and the other for all else.
+#![tactic(auto)]
+
 pub mod judge;
 pub mod put;
 pub mod store;

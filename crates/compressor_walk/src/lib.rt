@@ -4,4 +4,6 @@
 // has no way out before the last. `specs/Walk.antt` says what each loop tests; `proofs/Walk.antt` that all of it together is the
 // definition's soundness, context by context.
 // Read `sound` first.
+#![tactic(auto)]
+
 pub mod sound;

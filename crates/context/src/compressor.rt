@@ -3,7 +3,7 @@ use packet::csrc::Csrc;
 use packet::header::{Flow, Ip, Rtp};
 
 // The compressor's contexts are never broken.
-#[derive(Drop)]
+#[derive(Clone, Copy)]
 pub enum Usage {
     Empty,
     Live,
@@ -12,7 +12,7 @@ pub enum Usage {
 // The differences of the last packet from the one before it.
 //
 // known: there was one before it. Without it id and timestamp mean nothing, for 0 is a difference too.
-#[derive(Drop)]
+#[derive(Clone, Copy)]
 pub struct Earlier {
     pub known: bool,
     pub id: u16,
@@ -22,7 +22,7 @@ pub struct Earlier {
 // In how many packets after the last one each thing is to be sent again.
 //
 // full: full headers. id to list: the field, sent whole. did, dts: the deltas of ID and timestamp.
-#[derive(Drop)]
+#[derive(Clone, Copy)]
 pub struct Due {
     pub full: u8,
     pub id: u8,
@@ -37,7 +37,7 @@ pub struct Due {
 // What the compressor keeps of a stream: the fields are those of the last packet.
 //
 // blank: its UDP checksum was blank.
-#[derive(Drop)]
+#[derive(Clone, Copy)]
 pub struct CompressorContext {
     pub status: Usage,
     pub flow: Flow,

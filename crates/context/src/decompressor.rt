@@ -4,7 +4,7 @@ use packet::header::{Flow, Ip, Rtp};
 use packet::refusal::Verdict;
 
 // A broken context takes nothing but a full header.
-#[derive(Drop)]
+#[derive(Clone, Copy)]
 pub enum Status {
     Empty,
     Live,
@@ -15,7 +15,7 @@ pub enum Status {
 //
 // filled: a full header has set it once, so that a broken context has something to report. carried: CU and CR have the UDP
 // checksum. marker: no rule reads it.
-#[derive(Drop)]
+#[derive(Clone, Copy)]
 pub struct DecompressorContext {
     pub status: Status,
     pub filled: bool,
@@ -30,7 +30,7 @@ pub struct DecompressorContext {
 }
 
 // What becomes of a CU or CR on a live context, by how many steps it is on, and the context after it.
-#[derive(Drop)]
+#[derive(Clone, Copy)]
 pub struct Applied {
     pub verdict: Verdict,
     pub gap: u8,

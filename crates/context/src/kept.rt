@@ -1,5 +1,5 @@
 // The deltas: by how much ID and timestamp rise with each packet, modulo the field's width.
-#[derive(Drop)]
+#[derive(Clone, Copy)]
 pub struct Deltas {
     pub id: u16,
     pub timestamp: u32,
@@ -9,7 +9,7 @@ pub struct Deltas {
 //
 // sequence: at the compressor the link sequence of the next packet to be sent, at the decompressor that of the last one
 // accepted. generation: how many full-header runs were started afresh, modulo 64.
-#[derive(Drop)]
+#[derive(Clone, Copy)]
 pub struct Link {
     pub sequence: u8,
     pub generation: u8,

@@ -3,7 +3,7 @@ use crate::kept::{Deltas, Link};
 use packet::parts::Parts;
 
 // The link types of a packet on a context.
-#[derive(Drop)]
+#[derive(Clone, Copy)]
 pub enum Kind {
     FullHeader,
     CompressedUdp,
@@ -14,7 +14,7 @@ pub enum Kind {
 //
 // id, sequence, timestamp: off pattern. payload, list: changed. did, dts: the difference is adopted as the delta.
 // deltas: the differences themselves.
-#[derive(Drop)]
+#[derive(Clone, Copy)]
 pub struct Judged {
     pub id: bool,
     pub sequence: bool,
@@ -27,7 +27,7 @@ pub struct Judged {
 }
 
 // Whether each thing is due in this packet: changed now, or due still. A full header has them all anyway.
-#[derive(Drop)]
+#[derive(Clone, Copy)]
 pub struct DueNow {
     pub id: bool,
     pub sequence: bool,
@@ -42,7 +42,7 @@ pub struct DueNow {
 //
 // link: what the packet carries of the link sequence and the generation. parts: what a CU or CR carries; a full header
 // carries the packet's own header in their place.
-#[derive(Drop)]
+#[derive(Clone, Copy)]
 pub struct Step {
     pub kind: Kind,
     pub link: Link,

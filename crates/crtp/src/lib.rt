@@ -10,6 +10,8 @@
 // full headers after a loss that was too long, then `save` and `load`, which keep a decompressor over a restart: each contract
 // names the definition that the answer equals. Then read `specs/Robust.antt`: over whole lists of these calls, what is not lost is
 // rebuilt exactly (proved in `proofs/Robust.antt`).
+#![tactic(auto)]
+
 ghost use Rattle.std.specs.Prelude.{◌≡◌, []};
 ghost use Rattle.compressor.specs.Send.{send_of};
 ghost use Rattle.compressor.specs.Request.{request_of};

@@ -1,7 +1,7 @@
 use packet::refusal::Refusal;
 
 // What became of a call: accepted with the length of what it gave out, or refused.
-#[derive(Drop)]
+#[derive(Clone, Copy)]
 pub enum Outcome {
     Accepted(usize),
     Refused(Refusal),

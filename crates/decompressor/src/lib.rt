@@ -4,6 +4,8 @@
 // `decompressor_walk`, `receive`, `report`, `save` and `load` have the calls, each equal to its definition here or in `report` and
 // `saves`.
 // Read `specs/Receive.antt` first: `receive_of` says all that an arrival does.
+#![tactic(auto)]
+
 pub mod answer;
 pub mod old;
 pub mod table;

@@ -1,5 +1,5 @@
 // How a COMPRESSED_UDP without F is taken. One member's bridge still sends it; the compressor here never does (rule 8.8).
-#[derive(Drop)]
+#[derive(Clone, Copy)]
 pub enum OldForm {
     Taken,
 }

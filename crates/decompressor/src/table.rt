@@ -4,7 +4,7 @@ use settings::Settings;
 // The decompressor's contexts, with what it was opened with. Places from `settings.contexts` on stay empty.
 //
 // This is the table that definitions speak of. Calls have it in three slices of the caller's (`decompressor_table`).
-#[derive(Drop)]
+#[derive(Clone, Copy)]
 pub struct Table {
     pub settings: Settings,
     pub contexts: [DecompressorContext; Settings::PLACES],

@@ -4,5 +4,7 @@
 // By the rules of `context` an arrival may bring any field and stores them all. Here a steady one is told from others, its context
 // is moved on, and the five numbers that change are stored; `proofs/Rules.antt` has that the rules do the same. `receive` takes
 // this way where it can, and the other for all else.
+#![tactic(auto)]
+
 pub mod step;
 pub mod store;

@@ -1,6 +1,6 @@
 // Where the numbers of a decompressor's table stand in its three slices: the place of each plane, of the settings, and how long
 // each slice is. The context at place i has its number of a plane at the plane's place + i (docs/LAYOUT.md).
-#[derive(Drop)]
+#[derive(Clone, Copy)]
 pub struct Layout {}
 
 // Slices: numbers of 32, of 16 and of 8 bits.

@@ -2,6 +2,8 @@
 //
 // A table is lent as three slices, of numbers of 32, 16 and 8 bits, in planes of 64 places. `specs/Layout.antt` says which table of
 // `decompressor` three slices stand for: read that first. Whether a table is sound, and the calls, are left to the crates above.
+#![tactic(auto)]
+
 pub mod layout;
 pub mod read;
 pub mod write;

@@ -4,6 +4,8 @@
 // is as many as both endpoints are opened for: what comes after them is rebuilt all the same. Once three are: the desk refuses what
 // comes next, its report goes back over the radio, and the arm sends full headers again. The other direction is not disturbed.
 // Read `run::half_turn` first.
+#![tactic(auto)]
+
 mod place;
 mod run;
 mod show;

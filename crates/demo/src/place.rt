@@ -2,7 +2,7 @@
 use crtp::{CompressorLayout, DecompressorLayout};
 use endpoint::{Outcome, Totals};
 
-#[derive(Drop)]
+#[derive(Clone, Copy)]
 pub struct Place {
     pub cw: [u32; CompressorLayout::WORDS],
     pub ch: [u16; CompressorLayout::SHORTS],
@@ -14,7 +14,7 @@ pub struct Place {
 }
 
 // What became of a call, and the memory that it left.
-#[derive(Drop)]
+#[derive(Clone, Copy)]
 pub struct Answer {
     pub place: Place,
     pub outcome: Outcome,

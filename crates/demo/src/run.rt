@@ -5,7 +5,7 @@ use crate::stream::{PAYLOAD, ROOM, is_lost, put_packet};
 use endpoint::Outcome;
 
 // One direction of the radio link: who sends, who receives, and what was counted of it; back is what was counted of the other one.
-#[derive(Drop)]
+#[derive(Clone, Copy)]
 pub struct Link {
     pub from_arm: bool,
     pub sender: Place,
@@ -24,7 +24,7 @@ fn front<'a>(s: &'a [u8; ROOM], n: usize) -> &'a [u8] {
 }
 
 // What an arrival left, and what became of the packet.
-#[derive(Drop)]
+#[derive(Clone, Copy)]
 struct Arrived {
     place: Place,
     fate: Fate,

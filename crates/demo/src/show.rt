@@ -2,7 +2,7 @@ use crate::stream::voice_at;
 use endpoint::{Refusal, Totals};
 
 // What became of a packet on its way; a rebuilt one is exactly the packet that went in, or it is not.
-#[derive(Drop)]
+#[derive(Clone, Copy)]
 pub enum Fate {
     Lost,
     Rebuilt(bool),
@@ -10,7 +10,7 @@ pub enum Fate {
 }
 
 // A packet's way over the radio: its turn and direction, its link type, the bytes of its header before and on the link.
-#[derive(Drop)]
+#[derive(Clone, Copy)]
 pub struct Crossing {
     pub turn: u8,
     pub from_arm: bool,
@@ -21,7 +21,7 @@ pub struct Crossing {
 }
 
 // What was counted of one direction: packets sent, lost and rebuilt exactly, and the bytes of all headers before and on the link.
-#[derive(Drop)]
+#[derive(Clone, Copy)]
 pub struct Count {
     pub sent: u32,
     pub lost: u32,

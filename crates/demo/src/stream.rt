@@ -9,7 +9,7 @@ pub const ROOM: usize = 64;
 pub const PAYLOAD: usize = 20;
 
 // What changes from packet to packet; sources is how many CSRCs there are, and a marker of 1 says that speech begins.
-#[derive(Drop)]
+#[derive(Clone, Copy)]
 pub struct Voice {
     pub marker: u32,
     pub payload: u32,

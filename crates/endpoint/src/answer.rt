@@ -10,7 +10,7 @@ use crtp::{CompressorOutcome, CompressorTable, DecompressorOutcome, Decompressor
 //
 // This is the endpoint that definitions speak of. Calls have it in slices of the caller's: three for each table, one for the
 // totals.
-#[derive(Drop)]
+#[derive(Clone, Copy)]
 pub struct Endpoint {
     pub compressor: CompressorTable,
     pub totals: Totals,
@@ -21,7 +21,7 @@ pub struct Endpoint {
 //
 // Sent: link type and length of what goes on the link. Rebuilt: the length of a packet for the wire. Reported: the length of what
 // goes on the link with type CONTEXT_STATE; 0 where there is nothing to report.
-#[derive(Drop)]
+#[derive(Clone, Copy)]
 pub enum Outcome {
     Opened,
     Sent(u8, usize),

@@ -9,6 +9,8 @@
 // What those definitions say of a table is what `crtp` says of it (`crtp/specs/Face.antt`); nothing here looks further down.
 // Then read `specs/History.antt`, what the totals are after any list of calls, and `specs/Facing.antt`, what two endpoints that
 // face each other promise. What becomes of a call is in `routes`.
+#![tactic(auto)]
+
 pub mod answer;
 mod routes;
 pub mod totals;

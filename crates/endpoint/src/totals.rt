@@ -6,7 +6,7 @@ use crtp::Refusal;
 
 // What an endpoint did since it was opened: packets that it sent plain, as FULL_HEADER, COMPRESSED_UDP and COMPRESSED_RTP; packets
 // that it rebuilt, plain ones too; calls that it refused, but for those that found a table unsound.
-#[derive(Drop)]
+#[derive(Clone, Copy)]
 pub struct Totals {
     pub plain: u32,
     pub full: u32,

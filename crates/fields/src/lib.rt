@@ -4,6 +4,8 @@
 // field with the place past it. A step passes over a field that is not wanted, and does nothing once a field was refused,
 // so a layout is straight-line code. Which fields a packet has is the business of `links`.
 // Read `specs/Next.antt` first: every step is the one definition `next` with a reader of its own.
+#![tactic(auto)]
+
 pub mod list;
 pub mod next;
 pub mod place;

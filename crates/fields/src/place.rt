@@ -8,32 +8,32 @@ use packet::refusal::{Refusal, Verdict};
 use packet::sent::{Sent8, Sent16, Sent32};
 
 // What was found of a reading so far, and where it stands: past the last field, or at the one that was refused.
-#[derive(Drop)]
+#[derive(Clone, Copy)]
 pub struct Place {
     pub verdict: Verdict,
     pub cursor: Cursor,
 }
 
 // A field that may have been there, and the place past it.
-#[derive(Drop)]
+#[derive(Clone, Copy)]
 pub struct Got8 {
     pub place: Place,
     pub field: Sent8,
 }
 
-#[derive(Drop)]
+#[derive(Clone, Copy)]
 pub struct Got16 {
     pub place: Place,
     pub field: Sent16,
 }
 
-#[derive(Drop)]
+#[derive(Clone, Copy)]
 pub struct Got32 {
     pub place: Place,
     pub field: Sent32,
 }
 
-#[derive(Drop)]
+#[derive(Clone, Copy)]
 pub struct GotList {
     pub place: Place,
     pub list: Csrc,

@@ -4,4 +4,6 @@
 // `rtp` has the two bytes of an RTP header that are split into bits. There is no function here: `headers_read` reads a header
 // and `headers_write` writes one. What a context makes of a header is the business of the crates above.
 // Read `specs/Header.antt` and `specs/Compressible.antt` first.
+#![tactic(auto)]
+
 pub mod rtp;

@@ -1,5 +1,5 @@
 // The first byte of an RTP header: two bits of version, padding, extension, four bits of CSRC count.
-#[derive(Drop)]
+#[derive(Clone, Copy)]
 pub struct RtpFirst {
     pub version: u8,
     pub padding: bool,
@@ -8,7 +8,7 @@ pub struct RtpFirst {
 }
 
 // The second: marker, seven bits of payload type.
-#[derive(Drop)]
+#[derive(Clone, Copy)]
 pub struct RtpSecond {
     pub marker: bool,
     pub payload: u8,

@@ -4,6 +4,8 @@
 // What is written is defined in `headers`, where the laws stand too. Length fields and IP checksum are given by the caller,
 // since a full header has others than its packet.
 // Read `write::put_header` first.
+#![tactic(auto)]
+
 pub mod checksum;
 pub mod ip;
 pub mod rtp;

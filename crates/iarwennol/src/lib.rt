@@ -3,6 +3,8 @@
 // A slice crosses as a pointer and a count, a table as three of them; no two may overlap, which is the caller's duty. The number,
 // the link type and the length of an answer stand in one number of 64 bits (`specs/Packed.antt`). `include/iarwennol.h` and
 // `bindings/` declare these calls.
+#![tactic(auto)]
+
 mod pack;
 
 ghost use Rattle.std.specs.Prelude.{[]};

@@ -1,6 +1,8 @@
 // Prints the bytes of the worked cases of the link layouts, as the functions of `links_write` and `refresh` write them.
 //
 // What it prints is compared with the rules' cases (11.1), which were written down by hand.
+#![tactic(auto)]
+
 ghost use Rattle.std.specs.Prelude.{◌≤◌};
 ghost use Rattle.packet.specs.Ranges.{Narrow};
 

@@ -4,7 +4,7 @@ use packet::sent::{Sent16, Sent32};
 // The flags of both flag bytes of a CR: M, S, T, I. The first byte's number is the link sequence, the second's the CSRC count.
 //
 // The marker itself, and which differences are sent: of sequence, timestamp and ID.
-#[derive(Drop)]
+#[derive(Clone, Copy)]
 pub struct CrFlags {
     pub marker: bool,
     pub dsn: bool,
@@ -13,7 +13,7 @@ pub struct CrFlags {
 }
 
 // The flags of a CR that are in effect, and the count of its list: those of the second byte, where it stands.
-#[derive(Drop)]
+#[derive(Clone, Copy)]
 pub struct Second {
     pub place: Place,
     pub listed: bool,
@@ -22,7 +22,7 @@ pub struct Second {
 }
 
 // The differences of a CR.
-#[derive(Drop)]
+#[derive(Clone, Copy)]
 pub struct Deltas {
     pub place: Place,
     pub did: Sent16,

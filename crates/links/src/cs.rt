@@ -1,5 +1,5 @@
 // The flag byte of a record: whether it asks for full headers, three bits that must be 0, the last link sequence.
-#[derive(Drop)]
+#[derive(Clone, Copy)]
 pub struct RecordFlags {
     pub asks: bool,
     pub zero1: bool,

@@ -6,7 +6,7 @@ use packet::sent::{Sent8, Sent16, Sent32};
 //
 // values: the RTP part consists of the second byte and the fields it names, not of a whole RTP header.
 // The others say which fields are sent: the ID, the differences of timestamp and of ID.
-#[derive(Drop)]
+#[derive(Clone, Copy)]
 pub struct CuFlags {
     pub values: bool,
     pub id: bool,
@@ -15,7 +15,7 @@ pub struct CuFlags {
 }
 
 // The second byte of a CU with F: M, S, T, pt, CC. The marker itself, which fields are sent, and the CSRC count.
-#[derive(Drop)]
+#[derive(Clone, Copy)]
 pub struct CuSecond {
     pub marker: bool,
     pub sequence: bool,
@@ -25,7 +25,7 @@ pub struct CuSecond {
 }
 
 // What every CU carries before its RTP part: UDP checksum, differences of ID and timestamp, ID.
-#[derive(Drop)]
+#[derive(Clone, Copy)]
 pub struct Changes {
     pub place: Place,
     pub checksum: u16,
@@ -35,7 +35,7 @@ pub struct Changes {
 }
 
 // The RTP part of a CU with F.
-#[derive(Drop)]
+#[derive(Clone, Copy)]
 pub struct Values {
     pub place: Place,
     pub sequence: Sent16,

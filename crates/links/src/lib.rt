@@ -6,6 +6,8 @@
 // There is no function here: `refresh` reads and writes FH and CS, `links_read` and `links_write` CU and CR. What becomes of a
 // context is not decided here.
 // Read `specs/Cu.antt` first, and `specs/CuLaws.antt`, which holds its two directions together.
+#![tactic(auto)]
+
 pub mod cr;
 pub mod cs;
 pub mod cu;

@@ -5,7 +5,7 @@ use packet::parts::Parts;
 // The twelve fixed bytes of an RTP header.
 //
 // first and second are split into bits as `headers` says.
-#[derive(Drop)]
+#[derive(Clone, Copy)]
 pub struct Fixed {
     pub place: Place,
     pub first: u8,
@@ -15,7 +15,7 @@ pub struct Fixed {
     pub ssrc: u32,
 }
 
-#[derive(Drop)]
+#[derive(Clone, Copy)]
 pub struct GotRtp {
     pub place: Place,
     pub header: RtpHeader,
@@ -24,7 +24,7 @@ pub struct GotRtp {
 // What a CU without F carries, and the place where the rest of the packet starts.
 //
 // parts holds what stands before the RTP header; of the header's own fields it has the marker.
-#[derive(Drop)]
+#[derive(Clone, Copy)]
 pub struct ReadWhole {
     pub place: Place,
     pub parts: Parts,

@@ -4,6 +4,8 @@
 // again that holds nothing. A load that is refused touches no number of them.
 // The layout is `saves`': read its `specs/Saves.antt` first, where `load_of` says all that a load does; the functions here equal
 // its definitions one by one.
+#![tactic(auto)]
+
 pub mod check;
 pub mod front;
 pub mod header;

@@ -4,7 +4,7 @@ ghost use Rattle.octets.specs.Flags.{flags_of, byte_of};
 // A flag byte: four flags from the top bit down, and the number of its low four bits.
 //
 // The bits have the names of their places here. Each layout of `links` gives them their own.
-#[derive(Drop)]
+#[derive(Clone, Copy)]
 pub struct Flags {
     pub bit7: bool,
     pub bit6: bool,

@@ -4,5 +4,7 @@
 // is chosen by
 // the context's status and by the step's kind. The rest of the packet, the table and the output are the business of `compressor`.
 // Read `specs/Outgoing.antt` first.
+#![tactic(auto)]
+
 pub mod link;
 pub mod step;

@@ -4,7 +4,7 @@ ghost use Rattle.packet.specs.Csrc.{same, same_list, no_list};
 // The list of contributing sources.
 //
 // Words past the count are 0, so that two lists are equal exactly where count and all fifteen words are.
-#[derive(Drop)]
+#[derive(Clone, Copy)]
 pub struct Csrc {
     pub count: u8,
     pub words: [u32; Csrc::PLACES],

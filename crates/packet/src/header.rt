@@ -1,7 +1,7 @@
 use crate::csrc::Csrc;
 
 // What tells one stream from another: both addresses, both UDP ports and the SSRC.
-#[derive(Drop)]
+#[derive(Clone, Copy)]
 pub struct Flow {
     pub source: u32,
     pub destination: u32,
@@ -13,7 +13,7 @@ pub struct Flow {
 // The IPv4 fields that a context keeps.
 //
 // flags: the reserved bit times 2 plus DF; MF is 0 in every packet that is compressed.
-#[derive(Drop)]
+#[derive(Clone, Copy)]
 pub struct Ip {
     pub tos: u8,
     pub ttl: u8,
@@ -22,7 +22,7 @@ pub struct Ip {
 }
 
 // The RTP fields that a context keeps, but for SSRC, marker and CSRC list.
-#[derive(Drop)]
+#[derive(Clone, Copy)]
 pub struct Rtp {
     pub padding: bool,
     pub extension: bool,
@@ -34,7 +34,7 @@ pub struct Rtp {
 // The header of a compressible packet, less what can be worked out: version, lengths, protocol, IP checksum.
 //
 // checksum: the UDP checksum, 0 where it is blank.
-#[derive(Drop)]
+#[derive(Clone, Copy)]
 pub struct Header {
     pub flow: Flow,
     pub ip: Ip,
@@ -45,7 +45,7 @@ pub struct Header {
 }
 
 // The RTP header that a COMPRESSED_UDP without F carries whole.
-#[derive(Drop)]
+#[derive(Clone, Copy)]
 pub struct RtpHeader {
     pub ssrc: u32,
     pub marker: bool,

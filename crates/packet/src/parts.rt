@@ -5,7 +5,7 @@ use crate::sent::{Sent8, Sent16, Sent32};
 //
 // did, dsn, dts: the differences of ID, sequence and timestamp. listed: a CSRC list stands in it, replacing the context's;
 // without one csrc is the empty list. checksum is 0 where the context carries none.
-#[derive(Drop)]
+#[derive(Clone, Copy)]
 pub struct Parts {
     pub marker: bool,
     pub checksum: u16,

@@ -2,7 +2,7 @@ ghost use Rattle.std.specs.Prelude.{◌≡◌};
 ghost use Rattle.packet.specs.Refusal.{is_accepted};
 
 // Why a call is refused (rule 3.1); `specs/Refusal.antt` has the number of each.
-#[derive(Drop)]
+#[derive(Clone, Copy)]
 pub enum Refusal {
     Unsound,
     BadLength,
@@ -19,7 +19,7 @@ pub enum Refusal {
 }
 
 // What is found of a packet, or of the part of it that was looked at so far: a call that finds a refusal answers it.
-#[derive(Drop)]
+#[derive(Clone, Copy)]
 pub enum Verdict {
     Accepted,
     Refused(Refusal),

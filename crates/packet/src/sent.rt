@@ -2,19 +2,19 @@ ghost use Rattle.std.specs.Prelude.{◌≡◌, cond};
 ghost use Rattle.packet.specs.Sent.{sent_if8, sent_if16, sent_if32};
 
 // A field that a link packet may carry; its value is 0 where it is not sent.
-#[derive(Drop)]
+#[derive(Clone, Copy)]
 pub struct Sent8 {
     pub sent: bool,
     pub value: u8,
 }
 
-#[derive(Drop)]
+#[derive(Clone, Copy)]
 pub struct Sent16 {
     pub sent: bool,
     pub value: u16,
 }
 
-#[derive(Drop)]
+#[derive(Clone, Copy)]
 pub struct Sent32 {
     pub sent: bool,
     pub value: u32,

@@ -2,5 +2,7 @@
 //
 // `specs/Planes.antt` says how a plane is read and what three slices that hold a table are; `specs/PlanesLaws.antt` and
 // `specs/EveryLaws.antt` have what holds of a row that is replaced and of a walk over all places.
+#![tactic(auto)]
+
 pub mod clear;
 pub mod numbers;

@@ -6,6 +6,8 @@
 // judged and finds its output.
 // Read `receive` first, then `compressed`, `settle` and `judge`. `steady` is a short way for what most arrivals are
 // (`decompressor_steady`): it is proved to do what they do.
+#![tactic(auto)]
+
 mod compressed;
 mod full;
 mod judge;

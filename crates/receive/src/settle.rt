@@ -17,14 +17,14 @@ use settings::Settings;
 // What became of a link packet on its context, and the context that it leaves: as it was, moved on, or broken.
 //
 // The functions here work on a copy of the context, so that no table is handed about.
-#[derive(Drop)]
+#[derive(Clone, Copy)]
 pub struct Taken {
     pub outcome: Outcome,
     pub context: DecompressorContext,
 }
 
 // The fields of a CU or CR: the place past them, what the context makes of them, and the UDP checksum that came.
-#[derive(Drop)]
+#[derive(Clone, Copy)]
 pub struct Arrived {
     pub place: Place,
     pub applied: Applied,

@@ -21,7 +21,7 @@ use packet::refusal::is_accepted;
 use settings::Settings;
 
 // Whether an arrival goes the short way, and what was read for it: the UDP checksum that came, and where the rest begins.
-#[derive(Drop)]
+#[derive(Clone, Copy)]
 pub struct SteadyRead {
     pub goes: bool,
     pub sent: u16,

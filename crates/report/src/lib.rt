@@ -3,6 +3,8 @@
 // The table is lent (`decompressor_table`), the bytes of a record are `refresh`'s. A report changes nothing, and reads no more than
 // three planes of the bytes where the table is sound.
 // Read `specs/Report.antt` first: `report_of` says all that a report does.
+#![tactic(auto)]
+
 ghost use Rattle.std.specs.Prelude.{◌≡◌, true, cond, ◌≤◌, ◌<◌, ◌+◌, length};
 ghost use Rattle.octets.specs.Put.{Wrote};
 ghost use Rattle.links.specs.Cs.{records_bytes};

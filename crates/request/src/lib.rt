@@ -3,6 +3,8 @@
 // The table's layout is `compressor_table`'s, its soundness `compressor_walk`'s, the definition `request_of` `compressor`'s; the
 // bytes of a record are `refresh`'s, what a request does to one context is `compress`'s.
 // Read `request` first.
+#![tactic(auto)]
+
 ghost use Rattle.std.specs.Prelude.{◌≡◌, cond, [], ◌≤◌};
 ghost use Rattle.context.specs.Compressor.{requested};
 ghost use Rattle.compressor.specs.Request.{request_table, request_of};

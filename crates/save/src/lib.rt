@@ -2,6 +2,8 @@
 //
 // The layout is `saves`': read its `specs/Saves.antt` first, where `save_of` says all that a save does. The table is lent
 // (`decompressor_table`), and a save changes nothing of it.
+#![tactic(auto)]
+
 pub mod record;
 
 ghost use Rattle.std.specs.Prelude.{◌≡◌, true, ◌≤◌, ◌+◌, length, take};

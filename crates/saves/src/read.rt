@@ -4,14 +4,14 @@ use packet::header::Header;
 use settings::Settings;
 
 // What stands before the records.
-#[derive(Drop)]
+#[derive(Clone, Copy)]
 pub struct Front {
     pub place: Place,
     pub settings: Settings,
 }
 
 // A record's fields before its header; 0 where a field is not there.
-#[derive(Drop)]
+#[derive(Clone, Copy)]
 pub struct Fixed {
     pub place: Place,
     pub state: u8,
@@ -22,19 +22,19 @@ pub struct Fixed {
     pub size: u8,
 }
 
-#[derive(Drop)]
+#[derive(Clone, Copy)]
 pub struct GotHeader {
     pub place: Place,
     pub header: Header,
 }
 
-#[derive(Drop)]
+#[derive(Clone, Copy)]
 pub struct GotContext {
     pub place: Place,
     pub context: DecompressorContext,
 }
 
-#[derive(Drop)]
+#[derive(Clone, Copy)]
 pub struct GotContexts {
     pub place: Place,
     pub contexts: [DecompressorContext; Settings::PLACES],

@@ -9,7 +9,7 @@ use script_text::word::{Word, first_word, part};
 //
 // at: how far the text of answers is filled. line: the line that was cut last, and waits: whether it still is to be run. start:
 // where the next line begins in what was read. filled: how much was read.
-#[derive(Drop)]
+#[derive(Clone, Copy)]
 pub struct State {
     pub at: usize,
     pub line: Word,

@@ -4,6 +4,8 @@
 // are cut from the input, and each is lent what it is about. The tables stand in `turn::run`: cw, ch and cb are the compressor's
 // numbers of 32, 16 and 8 bits, dw, dh and db the decompressor's, ecw to edb and the totals those of the endpoint.
 // Read `turn::run` first.
+#![tactic(auto)]
+
 mod line;
 mod turn;
 

@@ -4,6 +4,8 @@
 // what it asks for is run, and the outcome becomes text. The table is lent as `crtp` has it: w, h and b are its numbers of 32, 16
 // and 8 bits.
 // Read `line::run_line` first.
+#![tactic(auto)]
+
 pub mod answer;
 pub mod call;
 pub mod fields;

@@ -6,7 +6,7 @@ use script_text::room::ROOM;
 use script_text::word::{Word, name_index, next_word};
 
 // A call, without its table: of bytes how many stand at the front of the input, of an output its room.
-#[derive(Drop)]
+#[derive(Clone, Copy)]
 pub enum Call {
     Open(u32, u32),
     Receive(u32, usize, usize),
@@ -14,7 +14,7 @@ pub enum Call {
 }
 
 // What a line is for: a call, writing a field of a context by hand, showing a context.
-#[derive(Drop)]
+#[derive(Clone, Copy)]
 pub enum Line {
     Asks(Call),
     Writes(Field, usize, u32),

@@ -6,7 +6,7 @@ use script_text::room::front;
 use script_text::text::put_number;
 
 // An outcome as the numbers that a script shows.
-#[derive(Drop)]
+#[derive(Clone, Copy)]
 struct Shown {
     number: u64,
     kind: u64,

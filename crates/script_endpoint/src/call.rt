@@ -5,7 +5,7 @@ use script_text::room::ROOM;
 use script_text::word::{Word, name_index};
 
 // A call, without its endpoint: of bytes how many stand at the front of the input, of an output its room.
-#[derive(Drop)]
+#[derive(Clone, Copy)]
 pub enum Call {
     Open(u32, u32),
     Wire(usize, usize),
@@ -14,7 +14,7 @@ pub enum Call {
 }
 
 // What a line is for: a call, writing a total by hand, showing the totals.
-#[derive(Drop)]
+#[derive(Clone, Copy)]
 pub enum Line {
     Asks(Call),
     Writes(usize, u32),

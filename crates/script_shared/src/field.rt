@@ -4,7 +4,7 @@ use crtp::Settings;
 // A field of a table: the place of its plane in the slice of its width; of bytes also the largest number that it takes.
 //
 // A setting is a byte that stands once in a table, and not once in a context.
-#[derive(Drop)]
+#[derive(Clone, Copy)]
 pub enum Field {
     Word(usize),
     Short(usize),

@@ -3,7 +3,7 @@ ghost use Rattle.std.specs.Prelude.{◌≤◌, ◌<◌, ◌*◌, length};
 use crate::word::{Word, part};
 
 // How many bytes were decoded to the front of a buffer, or that the word has none of them.
-#[derive(Drop)]
+#[derive(Clone, Copy)]
 pub enum Decoded {
     Bytes(usize),
     No,

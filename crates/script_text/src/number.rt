@@ -2,7 +2,7 @@ ghost use Rattle.std.specs.Prelude.{◌≤◌};
 
 use crate::word::{Word, next_word, part};
 
-#[derive(Drop)]
+#[derive(Clone, Copy)]
 pub enum Number {
     Is(u32),
     No,
@@ -43,7 +43,7 @@ pub fn number_at(line: &[u8], w: Word) -> Number {
     read(part(line, w))
 }
 
-#[derive(Drop)]
+#[derive(Clone, Copy)]
 pub enum Pair {
     Are(u32, u32),
     No,

@@ -3,20 +3,20 @@ use crate::number::{Number, last_number, number_at};
 use crate::word::{Word, next_word};
 
 // How many bytes were decoded, and the output room that was asked for.
-#[derive(Drop)]
+#[derive(Clone, Copy)]
 pub enum Packet {
     Is(usize, usize),
     No,
 }
 
 // The link type, how many bytes were decoded, and the output room that was asked for.
-#[derive(Drop)]
+#[derive(Clone, Copy)]
 pub enum Arrival {
     Is(u32, usize, usize),
     No,
 }
 
-#[derive(Drop)]
+#[derive(Clone, Copy)]
 pub enum Room {
     Is(usize),
     No,

@@ -5,6 +5,8 @@
 // decided in `outgoing`; here a packet finds its context, which is read out and stored back, and the result finds its output.
 // Read `send` first, then `send_on`: a steady packet goes a short way (`compressor_steady`), which is proved to do what the rules
 // do.
+#![tactic(auto)]
+
 ghost use Rattle.std.specs.Prelude.{◌≡◌, true, ◌≤◌, length};
 ghost use Rattle.compressor_steady.specs.Steady.{steady};
 ghost use Rattle.compressor_steady.specs.Unlisted.{Unlisted};

@@ -2,19 +2,21 @@
 //
 // The limits stand beside the type. Tables are not known here: an end's own opening calls `Settings::open`.
 // Read `Settings` first.
+#![tactic(auto)]
+
 ghost use Rattle.std.specs.Prelude.{◌≡◌};
 ghost use Rattle.settings.specs.Settings.{in_range, open_of, said, sound};
 
 // The two numbers that the ends agree on (rule 1.3).
 //
 // repeats: in how many packets a change is sent again after the first that has it. contexts: how many contexts there are.
-#[derive(Drop)]
+#[derive(Clone, Copy)]
 pub struct Settings {
     pub repeats: u8,
     pub contexts: u8,
 }
 
-#[derive(Drop)]
+#[derive(Clone, Copy)]
 pub enum Opened {
     Accepted(Settings),
     Refused,
