@@ -1,0 +1,46 @@
+use Rattle.codes.specs.ReadingLaws.{has_there, has-cut, field_at-there, field_at-cut}
+use Rattle.codes.specs.Reading.{read_word, word_at}
+use Rattle.std.proofs.Common.{arith}
+use Rattle.codes.proofs.cursor.Cursor.word.Goals as goal
+
+pub returns-then-not-has : goal.returns-then-not-has
+unfolding read_word
+returns-then-not-has c =
+    let a = c.args in
+    rw (field_at-cut a.s.now a.self.at 2 (word_at a.s.now a.self.at) (
+    has-cut a.s.now a.self.at 2 c.has.result c.has.ensures c.if-not-has.true-raw))
+
+pub bounds-s-at : goal.bounds-s-at
+bounds-s-at c =
+    let a = c.args in
+    omega (
+      arith,
+      has_there a.s.now a.self.at 2 c.has.result c.has.ensures
+          c.if-not-has.false-raw,
+    )
+
+pub overflow_add-at : goal.overflow_add-at
+overflow_add-at c =
+    let a = c.args in
+    omega (
+      arith,
+      has_there a.s.now a.self.at 2 c.has.result c.has.ensures
+          c.if-not-has.false-raw,
+    )
+
+pub bounds-s-at-2 : goal.bounds-s-at-2
+bounds-s-at-2 c =
+    let a = c.args in
+    omega (arith, has_there a.s.now a.self.at 2 c.has.result c.has.ensures c.if-not-has.false-raw)
+
+pub overflow_add-result : goal.overflow_add-result
+overflow_add-result c =
+    let a = c.args in
+    omega (arith, has_there a.s.now a.self.at 2 c.has.result c.has.ensures c.if-not-has.false-raw)
+
+pub returns : goal.returns
+unfolding read_word
+returns c =
+    let a = c.args in
+    let there = has_there a.s.now a.self.at 2 c.has.result c.has.ensures c.if-not-has.false-raw in
+    rw (c.be16.ensures, field_at-there a.s.now a.self.at 2 (word_at a.s.now a.self.at) there)
