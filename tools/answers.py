@@ -17,7 +17,7 @@ DIRECT = {'args', 'lifetimes', 'ranges', 'type_inv', 'utf8'}
 
 
 def norm(s):
-    return s.replace('_', '-')
+    return re.sub(r'_lem$', '', s).replace('_', '-')
 
 
 def blocks(text):

@@ -1,0 +1,8 @@
+use Prim.Native.Nat.{◌≤◌, ◌-◌}
+use Rattle.bench_sum.proofs.show.best_of_nine.Given as goal
+
+abbrev pub invariant-loop-i : goal.invariant-loop-i
+invariant-loop-i l = (1 ≤ l.i) × (l.i ≤ 9)
+
+abbrev pub decreases-loop-i : goal.decreases-loop-i
+decreases-loop-i l = 9 - l.i

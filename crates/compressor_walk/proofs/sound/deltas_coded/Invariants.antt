@@ -1,0 +1,13 @@
+use Prim.Native.Nat.{◌≤◌, ◌-◌}
+use mathlib.Core.Path.{◌≡◌}
+use lib.ListN.{length}
+use Rattle.planes.specs.Planes.{every}
+use Rattle.compressor_walk.specs.Walk.{coded_at}
+use Rattle.codes.proofs.code.has_code32.Reads as has-code32-reads
+use Rattle.compressor_walk.proofs.sound.deltas_coded.Given as goal
+
+abbrev pub invariant-loop-i : goal.invariant-loop-i
+invariant-loop-i l = (length l.w ≡ 1344) × (l.i ≤ 64) × (l.ok ≡ every (coded_at l.w) l.i)
+
+abbrev pub decreases-loop-i : goal.decreases-loop-i
+decreases-loop-i l = 64 - l.i

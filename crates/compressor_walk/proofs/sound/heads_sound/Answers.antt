@@ -1,0 +1,18 @@
+use Prim.Native.Nat.{ℕ, ◌-◌}
+use native.Mathlib.Omega.{arith}
+use Rattle.planes.specs.Planes.{row}
+use Rattle.planes.specs.EveryLaws.{every_more, every-done}
+use Rattle.compressor_walk.specs.Walk.{head_test}
+use Rattle.compressor_walk.proofs.sound.heads_sound.Goals as goal
+
+pub loop-i-preserved : goal.loop-i-preserved
+loop-i-preserved c =
+    let b = c.args.b.now in
+    let l = c.loop-i in
+    (l.inv.0, omega arith, every_more (λ (j : ℕ). head_test (row b j 0 20)) l.i l.ok l.inv.2)
+
+pub returns : goal.returns
+returns c =
+    let b = c.args.b.now in
+    let l = c.loop-i in
+    every-done (λ (j : ℕ). head_test (row b j 0 20)) l.i 64 l.ok l.invariant.2 l.invariant.1 (omega arith)

@@ -1,0 +1,12 @@
+use Prim.Native.Nat.{◌≤◌, ◌-◌}
+use mathlib.Core.Path.{◌≡◌}
+use lib.ListN.{length}
+use Rattle.planes.specs.Planes.{every}
+use Rattle.compressor_walk.specs.Walk.{even_at}
+use Rattle.compressor_walk.proofs.sound.ports_even.Given as goal
+
+abbrev pub invariant-loop-i : goal.invariant-loop-i
+invariant-loop-i l = (length l.h ≡ 384) × (l.i ≤ 64) × (l.ok ≡ every (even_at l.h) l.i)
+
+abbrev pub decreases-loop-i : goal.decreases-loop-i
+decreases-loop-i l = 64 - l.i

@@ -1,0 +1,31 @@
+use Rattle.decompressor_table.specs.Layout.{context_of}
+use Rattle.decompressor_table.proofs.read.deltas_at.Reads as deltas-at-reads
+use Rattle.decompressor_table.proofs.read.flow_at.Reads as flow-at-reads
+use Rattle.decompressor_table.proofs.read.ip_at.Reads as ip-at-reads
+use Rattle.decompressor_table.proofs.read.link_at.Reads as link-at-reads
+use Rattle.decompressor_table.proofs.read.list_at.Reads as list-at-reads
+use Rattle.decompressor_table.proofs.read.rtp_at.Reads as rtp-at-reads
+use Rattle.decompressor_table.proofs.read.status_of.Reads as status-of-reads
+use Rattle.decompressor_table.proofs.read.context_at.Goals as goal
+
+pub deltas_at-deltas-requires : goal.deltas_at-deltas-requires
+deltas_at-deltas-requires c =
+    let p = c.requires in
+    (p.0, p.1, p.3)
+
+pub link_at-link-requires : goal.link_at-link-requires
+link_at-link-requires c =
+    let p = c.requires in
+    (p.2, p.3)
+
+pub returns : goal.returns
+unfolding context_of
+returns c = rw (
+  c.link_at-link.ensures,
+  c.deltas_at-deltas.ensures,
+  c.list_at-csrc.ensures,
+  c.rtp_at-rtp.ensures,
+  c.ip_at-ip.ensures,
+  c.flow_at-flow.ensures,
+  c.status_of-status.ensures,
+)

@@ -1,0 +1,11 @@
+use borrow.Author.Tests.{eq-eqb, ne_eqb}
+use Rattle.decompressor_table.proofs.read.status_of.Goals as goal
+
+pub returns-then-v-eq0 : goal.returns-then-v-eq0
+returns-then-v-eq0 c = rw (eq-eqb _ _ c.if-v-eq0.true)
+
+pub returns-then-v-eq1 : goal.returns-then-v-eq1
+returns-then-v-eq1 c = rw (ne_eqb _ _ c.if-v-eq0.false, eq-eqb _ _ c.if-v-eq1.true)
+
+pub returns : goal.returns
+returns c = rw (ne_eqb _ _ c.if-v-eq0.false, ne_eqb _ _ c.if-v-eq1.false)

@@ -1,0 +1,13 @@
+use Prim.Native.Nat.{◌≤◌, ◌<◌, ◌-◌}
+use mathlib.Core.Path.{◌≡◌}
+use lib.ListN.{length, drop}
+use Rattle.planes.specs.Planes.{replaced}
+use Rattle.decompressor_table.proofs.write.put_shorts.Given as goal
+
+abbrev pub invariant-loop-p : goal.invariant-loop-p
+invariant-loop-p l =
+    (length l.r ≡ 5) × (l.i < 64) × (l.p ≤ 5) × (length l.w ≡ 320) ×
+    (length l.initial.w ≡ 320) × (replaced l.initial.w l.i 0 l.r ≡ replaced l.w l.i l.p (drop l.p l.r))
+
+abbrev pub decreases-loop-p : goal.decreases-loop-p
+decreases-loop-p l = 5 - l.p

@@ -1,0 +1,16 @@
+use Prim.Native.Nat.{ℕ}
+use mathlib.Core.Path.{◌≡◌, ap, sym}
+use mathlib.Core.List.{List, ◌∷◌}
+use lib.ListN.{length}
+use Rattle.planes.specs.PlanesLaws.{drop-places}
+use borrow.Author.Rules.{rules}
+use Rattle.decompressor_table.proofs.write.words_of.Goals as goal
+
+many : (c : goal.Start) → length c.args.c.csrc.words ≡ 15
+many c = search rules
+
+pub returns : goal.returns
+returns c =
+    let d = c.args.c in
+    ap (λ (r : List ℕ). d.flow.source ∷ d.flow.destination ∷ d.flow.ssrc ∷ d.rtp.timestamp ∷ d.deltas.timestamp ∷ r)
+    (sym (drop-places d.csrc.words 0 15 (sym (many (goal.at.returns c).Start))))

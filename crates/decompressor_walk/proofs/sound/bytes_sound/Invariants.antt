@@ -1,0 +1,12 @@
+use Prim.Native.Nat.{ℕ, ◌≤◌, ◌-◌}
+use mathlib.Core.Path.{◌≡◌}
+use lib.ListN.{length}
+use Rattle.planes.specs.Planes.{row, every}
+use Rattle.decompressor_walk.specs.Walk.{byte_test}
+use Rattle.decompressor_walk.proofs.sound.bytes_sound.Given as goal
+
+abbrev pub invariant-loop-i : goal.invariant-loop-i
+invariant-loop-i l = (length l.b ≡ 834) × (l.i ≤ 64) × (l.ok ≡ every (λ (j : ℕ). byte_test (row l.b j 0 13)) l.i)
+
+abbrev pub decreases-loop-i : goal.decreases-loop-i
+decreases-loop-i l = 64 - l.i

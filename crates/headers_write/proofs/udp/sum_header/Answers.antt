@@ -1,0 +1,16 @@
+use native.Mathlib.Nat.{sub-zero}
+use native.Mathlib.Omega.{arith}
+use Rattle.octets.specs.PutLaws.{wrote_then, wrote-taken}
+use Rattle.octets.proofs.put.put_list.Reads as put-list-reads
+use Rattle.octets.proofs.sum.sum.Reads as sum-reads
+use Rattle.headers_write.proofs.udp.put_pseudo.Reads as put-pseudo-reads
+use Rattle.headers_write.proofs.write.put_rtp.Reads as put-rtp-reads
+use Rattle.headers_write.proofs.write.put_udp.Reads as put-udp-reads
+use Rattle.headers_write.proofs.udp.sum_header.Goals as goal
+
+pub returns : goal.returns
+returns c =
+    let w = wrote_then c.put_pseudo-at.ensures.1 (
+    wrote_then c.put_udp-at.ensures.1 (
+    wrote_then c.put_rtp-at.ensures.1 c.put_list-at.ensures.1)) in
+    rw (c.sum.ensures, sub-zero, wrote-taken w (omega (arith, w.ends)))

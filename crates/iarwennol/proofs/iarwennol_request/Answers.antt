@@ -1,0 +1,8 @@
+use Rattle.crtp.specs.Face.{lent}
+use Rattle.iarwennol.specs.PackedLaws.{sent-as}
+use Rattle.crtp.proofs.request.Reads as request-reads
+use Rattle.iarwennol.proofs.pack.pack_sent.Reads as pack-sent-reads
+use Rattle.iarwennol.proofs.iarwennol_request.Goals as goal
+
+pub returns : goal.returns
+returns c = sent-as (lent c.args.w.now c.args.h.now c.args.b.now) _ c.request-o.result c.pack_sent.result _ _ c.pack_sent.ensures c.request-o.ensures

@@ -1,0 +1,9 @@
+use Rattle.crtp.specs.Face.{lent}
+use Rattle.iarwennol.specs.PackedLaws.{told-as}
+use Rattle.crtp.proofs.save.Reads as save-reads
+use Rattle.iarwennol.proofs.pack.pack_given.Reads as pack-given-reads
+use Rattle.iarwennol.proofs.iarwennol_save.Goals as goal
+
+pub returns : goal.returns
+returns c = told-as (lent c.args.w.now c.args.h.now c.args.b.now) c.save-o.result c.pack_given.result _ _
+    c.pack_given.ensures c.save-o.ensures

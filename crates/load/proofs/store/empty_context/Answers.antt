@@ -1,0 +1,7 @@
+use Rattle.context.specs.Sound.{empty_decompressor}
+use Rattle.packet.proofs.csrc.no_list.Reads as no-list-reads
+use Rattle.load.proofs.store.empty_context.Goals as goal
+
+pub returns : goal.returns
+unfolding empty_decompressor
+returns c = rw c.no_list-csrc.ensures

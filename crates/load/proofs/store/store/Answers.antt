@@ -1,0 +1,61 @@
+use mathlib.Core.List.{List}
+use Rattle.context.specs.declared.decompressor.DecompressorContext.{DecompressorContext}
+use Prim.Native.Nat.{◌-◌}
+use mathlib.Core.Path.{refl, sym, ap, ◌∙◌}
+use native.Mathlib.Omega.{arith}
+use borrow.Author.Rules.{rules}
+use Rattle.settings.specs.declared.Settings.{Settings}
+use Rattle.context.proofs.Arrays.{length-mapped}
+use Rattle.planes.specs.Planes.{Lent, lent}
+use Rattle.decompressor.specs.declared.table.Table.{Table}
+use Rattle.decompressor_table.specs.LayoutLaws.{fits-sizes, sized-true}
+use Rattle.load.specs.LoadLaws.{storing-more, storing-all}
+use Rattle.decompressor_table.proofs.write.put_context.Reads as put-context-reads
+use Rattle.decompressor_walk.proofs.open.put_empty.Reads as put-empty-reads
+use Rattle.load.proofs.store.store.Goals as goal
+
+abbrev given : Settings → List DecompressorContext → Table
+given s l = record { settings = s; contexts = l }
+
+abbrev handed : tie.Start invariant-loop decreases-loop → Lent
+handed s = lent s.args.w.now s.args.h.now s.args.b.now
+
+pub put_empty-requires : goal.put_empty-requires
+put_empty-requires c = c.requires
+
+pub loop-i-init : goal.loop-i-init
+loop-i-init c =
+    let p = c.put_empty.ensures in
+    (search (rules, length-mapped), omega arith, record { fit = p.0; settings = refl; front = refl })
+
+pub put_context-requires : goal.put_context-requires
+put_context-requires c = (
+  c.loop-i.invariant.2.fit,
+  omega (arith, c.loop-i-test.true),
+)
+
+pub loop-i-preserved : goal.loop-i-preserved
+loop-i-preserved c =
+    let g = c.loop-i-test.true in
+    let l = c.loop-i in (
+      l.invariant.0,
+      omega arith,
+      storing-more _ _ l.i _ _ (omega (arith, g)) l.invariant.0 l.invariant.2
+          c.put_context.ensures,
+    )
+
+pub shape_of-w : goal.shape_of-w
+shape_of-w c = (fits-sizes _ c.loop-i.invariant.2.fit).words ∙ sym (sized-true (handed c) c.requires).words
+
+pub shape_of-h : goal.shape_of-h
+shape_of-h c = (fits-sizes _ c.loop-i.invariant.2.fit).shorts ∙ sym (sized-true (handed c) c.requires).shorts
+
+pub shape_of-b : goal.shape_of-b
+shape_of-b c = (fits-sizes _ c.loop-i.invariant.2.fit).bytes ∙ sym (sized-true (handed c) c.requires).bytes
+
+pub returns : goal.returns
+returns c =
+    let l = c.loop-i in
+    let p = c.put_empty.ensures.1 in
+    storing-all _ _ l.i _ (omega arith) l.invariant.0 l.invariant.2
+    ∙ ap (λ (t : Table). given t.settings c.args.t5) p

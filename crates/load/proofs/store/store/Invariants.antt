@@ -1,0 +1,16 @@
+use Prim.Native.Nat.{◌≤◌, ◌-◌}
+use mathlib.Core.Path.{◌≡◌}
+use lib.ListN.{length}
+use Rattle.planes.specs.Planes.{lent}
+use Rattle.decompressor_table.specs.Layout.{table_of}
+use Rattle.load.specs.LoadLaws.{Storing}
+use Rattle.decompressor_table.proofs.write.put_context.Reads as put-context-reads
+use Rattle.decompressor_walk.proofs.open.put_empty.Reads as put-empty-reads
+use Rattle.load.proofs.store.store.Given as goal
+
+abbrev pub invariant-loop-i : goal.invariant-loop-i
+invariant-loop-i l =
+    (length l.contexts ≡ 64) × (l.i ≤ 64) × Storing (table_of (lent l.initial.w l.initial.h l.initial.b)).settings l.contexts l.i (lent l.w l.h l.b)
+
+abbrev pub decreases-loop-i : goal.decreases-loop-i
+decreases-loop-i l = 64 - l.i

@@ -1,0 +1,13 @@
+use native.Mathlib.Omega.{arith}
+use Rattle.octets.specs.PutLaws.{wrote_nothing}
+use Rattle.octets.proofs.put.put16_if.Goals as goal
+
+pub put16-requires : goal.put16-requires
+put16-requires c = rw c.if-wanted.true at c.requires
+
+pub returns-then-wanted : goal.returns-then-wanted
+returns-then-wanted c =
+    rw c.if-wanted.true (c.put16.ensures.ends, c.put16.ensures)
+
+pub returns-else-wanted : goal.returns-else-wanted
+returns-else-wanted c = rw c.if-wanted.false (omega arith, wrote_nothing)

@@ -1,0 +1,35 @@
+use Prim.Native.Nat.{◌-◌}
+use mathlib.Core.Path.{refl, ap, ◌∙◌}
+use native.Mathlib.Omega.{arith}
+use lib.ListN.{length}
+use Rattle.links.specs.Cs.{State}
+use Rattle.report.specs.ReportLaws.{states-all}
+use Rattle.report.specs.Told.{told}
+use Rattle.report.specs.ToldLaws.{length-told, told-count}
+use Rattle.report.proofs.records_at.Reads as records-at-reads
+use Rattle.report.proofs.count_records.Goals as goal
+
+pub loop-i-init : goal.loop-i-init
+loop-i-init c = (c.requires, refl, omega arith, omega arith)
+
+pub records_at-n-requires : goal.records_at-n-requires
+records_at-n-requires c = (c.loop-i.invariant.0, c.loop-i-test.true)
+
+pub loop-i-preserved : goal.loop-i-preserved
+loop-i-preserved c =
+    let l = c.loop-i in (
+      l.invariant.0,
+      rw (told-count c.args.b.now l.i (omega arith)) (omega (
+        arith,
+        l.invariant.1,
+        c.records_at-n.ensures.0,
+      )),
+      omega arith,
+      omega arith,
+    )
+
+pub returns : goal.returns
+returns c =
+    let b = c.args.b.now in
+    let l = c.loop-i in
+    (l.invariant.1 ∙ ap (length {A = State}) (states-all (told b) l.i (omega (arith, length-told b))), omega arith)
