@@ -91,7 +91,7 @@ sum_of-append start (x ∷ xs) ys = sum_of-append (plus start x) xs ys
 -- the sum stays a number of 16 bits
 pub sum_of-lt : {start : ℕ} {ws : List ℕ} → start < 65536 → AllWords ws → sum_of start ws < 65536
 sum_of-lt h none = h
-sum_of-lt h (more k a) = sum_of-lt (plus-lt h k) a
+sum_of-lt {start = start} h (more {w = w} k a) = sum_of-lt {start = plus start w} (plus-lt h k) a
 
 -- a word of 0 adds nothing
 pub sum_of-zero : (start : ℕ) {xs : List ℕ} (ys : List ℕ) → start < 65536 → AllWords xs

@@ -3,12 +3,6 @@ use lib.ListN.{length}
 use Rattle.planes.specs.Planes.{lent}
 use Rattle.decompressor_table.specs.LayoutLaws.{fits-sizes, puts-put}
 use borrow.Author.Rules.{rules}
-use Rattle.decompressor_table.proofs.write.bytes_of.Reads as bytes-of-reads
-use Rattle.decompressor_table.proofs.write.put_bytes.Reads as put-bytes-reads
-use Rattle.decompressor_table.proofs.write.put_shorts.Reads as put-shorts-reads
-use Rattle.decompressor_table.proofs.write.put_words.Reads as put-words-reads
-use Rattle.decompressor_table.proofs.write.shorts_of.Reads as shorts-of-reads
-use Rattle.decompressor_table.proofs.write.words_of.Reads as words-of-reads
 use Rattle.decompressor_table.proofs.write.put_context.Goals as goal
 
 many : (c : goal.Start) → length c.args.c.csrc.words ≡ 15

@@ -7,7 +7,7 @@ use Rattle.fields.proofs.list.next_list.Given as goal
 abbrev pub invariant-loop-i : goal.invariant-loop-i
 invariant-loop-i l =
     (l.n < 16) × (l.i ≤ l.n) × (length l.words ≡ 15)
-    × (record { place = l.at; list = record { count = l.i; l.words = l.words } } ≡ next_list l.s l.initial.at l.i)
+    × (record { place = l.at; list = record { count = l.i; words = l.words } } ≡ next_list l.s l.initial.at l.i)
 
 abbrev pub decreases-loop-i : goal.decreases-loop-i
 decreases-loop-i l = l.n - l.i

@@ -8,7 +8,7 @@ use Rattle.headers_write.proofs.checksum.ip_checksum.Goals as goal
 pub returns : goal.returns
 returns c =
     let h = c.args.h in
-    let fields = c.well-formed.0.1.1 in
+    let fields = c.well_formed.0.1.1 in
     let ip = fields.1.0.1.1 in
     let flow = fields.0.1.1 in
     let i : IpInRange h.ip = record {

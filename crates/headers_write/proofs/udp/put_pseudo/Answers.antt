@@ -1,8 +1,6 @@
 use native.Mathlib.Omega.{arith}
 use Rattle.octets.specs.PutLaws.{wrote_then}
 use Rattle.headers_write.specs.Summed.{pseudo_bytes}
-use Rattle.octets.proofs.put.put16.Reads as put16-reads
-use Rattle.octets.proofs.put.put32.Reads as put32-reads
 use Rattle.headers_write.proofs.udp.put_pseudo.Goals as goal
 
 pub returns : goal.returns

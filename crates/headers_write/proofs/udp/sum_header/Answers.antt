@@ -1,11 +1,6 @@
 use native.Mathlib.Nat.{sub-zero}
 use native.Mathlib.Omega.{arith}
 use Rattle.octets.specs.PutLaws.{wrote_then, wrote-taken}
-use Rattle.octets.proofs.put.put_list.Reads as put-list-reads
-use Rattle.octets.proofs.sum.sum.Reads as sum-reads
-use Rattle.headers_write.proofs.udp.put_pseudo.Reads as put-pseudo-reads
-use Rattle.headers_write.proofs.write.put_rtp.Reads as put-rtp-reads
-use Rattle.headers_write.proofs.write.put_udp.Reads as put-udp-reads
 use Rattle.headers_write.proofs.udp.sum_header.Goals as goal
 
 pub returns : goal.returns

@@ -12,17 +12,17 @@ loop-i-preserved c =
     let a = c.args in
     let l = c.loop-i in
     let p = c.put32-past in
-    let k = length-take-le l.i a.t3 (omega arith) in
-    let n : l.past ≡ a.at + length (words (take l.i a.t3)) = omega (arith, length-words (take l.i a.t3)) in (
+    let k = length-take-le l.i a.list (omega arith) in
+    let n : l.past ≡ a.at + length (words (take l.i a.list)) = omega (arith, length-words (take l.i a.list)) in (
       l.invariant.0,
       omega arith,
       omega arith,
-      p.auto.0 ∙ l.invariant.3,
+      p.auto.out ∙ l.invariant.3,
       p.ensures.holds ∙ rw (
         l.invariant.4,
-        words_take a.t3 l.i (omega arith),
+        words_take a.list l.i (omega arith),
       )
-          (sets_then (words (take l.i a.t3)) _ _ _ _ n),
+          (sets_then (words (take l.i a.list)) _ _ _ _ n),
     )
 
 pub shape_of-out : goal.shape_of-out
@@ -35,7 +35,7 @@ returns c =
       omega arith,
       record {
         ends = let a = c.args in omega
-            (arith, length-words (take a.n a.t3), length-take-le a.n a.t3 (omega arith));
+            (arith, length-words (take a.n a.list), length-take-le a.n a.list (omega arith));
         holds = rw (← e) l.invariant.4;
       },
     )
