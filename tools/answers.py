@@ -124,7 +124,7 @@ def inline(term, helpers):
 def aliases(term):
     """Removes `let b = c.before.. in`, and writes c for b."""
     while True:
-        m = re.search(rf"let ({NAME}) = \(?c((?:\.before)*)\)? in\s*", term)
+        m = re.search(rf"let ({NAME}) =\s*\(?c((?:\.before)*)\)?\s+in\s*", term)
         if not m:
             return term
         name = m.group(1)
@@ -138,7 +138,7 @@ def turn(crate, folder, fn, write=True):
     uses = [u for u in re.findall(r"use [^\n{]*(?:\{[^}]*\})?[^\n]*", head)
             if not re.search(rf"{re.escape(module)}\.(Tie|Statement|Reads|Lts)\b", u)]
     uses = [re.sub(r'\s+', ' ', u) for u in uses]
-    left, answers, helpers, invariants, renames = [], [], {}, [], {}
+    left, answers, helpers, invariants, renames, started = [], [], {}, [], {}, {}
     for b in blocks(body):
         comment = [l for l in b if l.startswith('--')]
         rest = [l for l in b if not l.startswith('--')]
@@ -202,6 +202,10 @@ def turn(crate, folder, fn, write=True):
                 continue
             place = fn.asked[new][0]
             term = aliases(inline(aliases(term), helpers))
+            for h, (ltype, lbody) in started.items():
+                call = rf"(?<![\w'.-]){re.escape(h)} (c(?:\.before)*|\(c(?:\.before)*\))(?![\w'.-])"
+                if re.search(call, term):
+                    term = f'\n    let {h} : {ltype} = {lbody} in' + re.sub(call, h, term)
             for h, hp in list(renames.items()):
                 def call(mm, hp=hp, h=h):
                     arg = mm.group(1)
@@ -227,9 +231,19 @@ def turn(crate, folder, fn, write=True):
                 answers.append(b)
                 continue
             t = joined
+            if hp == 'Start':
+                s = re.match(rf"{re.escape(hname)} : \({re.escape(param)} : tie\.Start\)\s*→ (.*?)\n{re.escape(hname)} {re.escape(param)} =(.*)", t, re.S)
+                if s:
+                    parts = [re.sub(rf"(?<![\w'.-]){re.escape(param)}(?![\w'-])", 'c', ' '.join(x.split())) for x in s.groups()]
+                    for h, (ltype, lbody) in started.items():
+                        call = rf"(?<![\w'.-]){re.escape(h)} c(?![\w'.-])"
+                        if re.search(call, parts[1]):
+                            parts[1] = f'let {h} : {ltype} = {lbody} in ' + re.sub(call, h, parts[1])
+                    started[hname] = [expand(inline(aliases(x), helpers), fn, 'Start', left, hname) for x in parts]
+                    continue
             if param != 'c':
                 t = re.sub(rf"(?<![\w'.-]){re.escape(param)}(?![\w'-])", 'c', t)
-            t = re.sub(r"tie\.[\w'-]+", f'goal.{fn.newplace[hp]}', t, count=1)
+            t = re.sub(r"tie\.[\w'-]+", fn.newplace[hp], t, count=1)
             t = aliases(inline(aliases(t), helpers))
             t = expand(t, fn, hp, left, hname)
             renames[hname] = hp
@@ -256,6 +270,9 @@ def turn(crate, folder, fn, write=True):
                     out.append(f"use {mm.group(1)}.{{{', '.join(keep)}}}{mm.group(3)}")
             else:
                 out.append(u)
+        places = sorted({fn.newplace[p] for p in renames.values()})
+        if places and which == 'Goals':
+            out.append(f"use {module}.Goals.{{{', '.join(places)}}}")
         return '\n'.join(out + [f'use {module}.{which} as goal']) + '\n\n'
 
     if write:

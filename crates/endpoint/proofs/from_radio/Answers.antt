@@ -5,6 +5,8 @@ use Rattle.endpoint.specs.Calls.{requested_by, answered_by, radio_of}
 use Rattle.endpoint.specs.Lent.{ends, endpoint_of}
 use Rattle.endpoint.specs.LentLaws.{gives-by}
 use Rattle.endpoint.proofs.Routed.{radio-asked, radio-rebuilt}
+use Rattle.endpoint.proofs.routes.ask.Reads as ask-reads
+use Rattle.endpoint.proofs.routes.rebuild.Reads as rebuild-reads
 use Rattle.endpoint.proofs.from_radio.Goals as goal
 
 pub returns-then-kind-eq-CONTEXT_STATE : goal.returns-then-kind-eq-CONTEXT_STATE

@@ -8,6 +8,11 @@ use Rattle.endpoint.specs.Calls.{open_of}
 use Rattle.endpoint.specs.Lent.{ends, counted, endpoint_of, open_lent}
 use Rattle.endpoint.specs.LentLaws.{gives-by, gives-kept, open_lent-sized, open_lent-not}
 use Rattle.endpoint.proofs.Opening.{opened_both, opened-none}
+use Rattle.crtp.proofs.open_compressor.Reads as open-compressor-reads
+use Rattle.crtp.proofs.open_decompressor.Reads as open-decompressor-reads
+use Rattle.endpoint.proofs.answer.is_accepted.Reads as is-accepted-reads
+use Rattle.endpoint.proofs.answer.opened.Reads as opened-reads
+use Rattle.endpoint.proofs.totals.put_totals.Reads as put-totals-reads
 use Rattle.endpoint.proofs.open.Goals as goal
 
 -- what the test of the lengths told

@@ -4,6 +4,10 @@ use Rattle.packet.specs.Refusal.{is_accepted}
 use Rattle.planes.specs.Planes.{lent}
 use Rattle.decompressor_table.specs.Layout.{sized}
 use Rattle.load.specs.LoadLaws.{front_of-most, load-unsized, lent-refused, lent-records}
+use Rattle.load.proofs.check.allow.Reads as allow-reads
+use Rattle.load.proofs.front.read_front.Reads as read-front-reads
+use Rattle.load.proofs.read_records.Reads as read-records-reads
+use Rattle.load.proofs.store.settle.Reads as settle-reads
 use Rattle.load.proofs.load.Goals as goal
 
 pub returns-then-not-sized : goal.returns-then-not-sized

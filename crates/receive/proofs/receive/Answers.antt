@@ -11,6 +11,8 @@ use Rattle.decompressor_table.specs.Layout.{table_of}
 use Rattle.decompressor_table.specs.LayoutLaws.{sound-fits}
 use Rattle.decompressor_table.specs.CallsLaws.{gives-kept, gives-by}
 use Rattle.receive.proofs.Arriving.{by-unsound, by-type, by_length, by_kind}
+use Rattle.decompressor_walk.proofs.sound.sound.Reads as sound-reads
+use Rattle.receive.proofs.receive_kind.Reads as receive-kind-reads
 use Rattle.receive.proofs.receive.Goals as goal
 
 pub returns-then-not-sound : goal.returns-then-not-sound

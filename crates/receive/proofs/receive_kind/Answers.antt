@@ -5,6 +5,9 @@ use Rattle.planes.specs.Planes.{lent}
 use Rattle.decompressor_table.specs.Layout.{table_of}
 use Rattle.decompressor_table.specs.CallsLaws.{gives-kept, gives-by}
 use Rattle.receive.proofs.Arriving.{kind-plain, kind-full, kind-compressed}
+use Rattle.receive.proofs.compressed.receive_compressed.Reads as receive-compressed-reads
+use Rattle.receive.proofs.full.receive_full.Reads as receive-full-reads
+use Rattle.receive.proofs.receive_plain.Reads as receive-plain-reads
 use Rattle.receive.proofs.receive_kind.Goals as goal
 
 pub returns-then-kind-eq0 : goal.returns-then-kind-eq0

@@ -16,6 +16,10 @@ use Rattle.report.specs.Report.{states_from, report_of}
 use Rattle.report.specs.ReportLaws.{report-none, report-no_room, report-accepted}
 use Rattle.report.specs.Told.{told}
 use Rattle.report.specs.ToldLaws.{states-lent, linked-lent}
+use Rattle.decompressor_walk.proofs.sound.sound.Reads as sound-reads
+use Rattle.refresh.proofs.cs.put_count.Reads as put-count-reads
+use Rattle.report.proofs.count_records.Reads as count-records-reads
+use Rattle.report.proofs.put_states.Reads as put-states-reads
 use Rattle.report.proofs.report.Goals as goal
 
 -- how many are broken, by the bytes and by the table

@@ -17,6 +17,9 @@ use Rattle.planes.specs.Planes.{lent}
 use Rattle.compressor_table.specs.Layout.{table_of}
 use Rattle.compressor_table.specs.LayoutLaws.{fits-sizes, sound-fits, table_of-contexts}
 use Rattle.compressor_table.specs.CallsLaws.{gives-kept, gives-accepted}
+use Rattle.compressor_walk.proofs.sound.sound.Reads as sound-reads
+use Rattle.refresh.proofs.cs.judge_request.Reads as judge-request-reads
+use Rattle.request.proofs.act_on_all.Reads as act-on-all-reads
 use Rattle.request.proofs.request.Goals as goal
 
 pub returns-then-not-sound : goal.returns-then-not-sound

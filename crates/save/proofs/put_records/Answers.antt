@@ -6,6 +6,8 @@ use Rattle.octets.specs.PutLaws.{wrote_then, wrote_nothing, wrote-length}
 use Rattle.planes.specs.Planes.{Lent, lent}
 use Rattle.decompressor_table.specs.LayoutLaws.{sound-fits, fits-sizes}
 use Rattle.save.specs.LentLaws.{sound-here, records-here, room-here}
+use Rattle.decompressor_table.proofs.read.context_at.Reads as context-at-reads
+use Rattle.save.proofs.record.put_record.Reads as put-record-reads
 use Rattle.save.proofs.put_records.Goals as goal
 
 abbrev handed : tie.Start invariant-loop decreases-loop → Lent

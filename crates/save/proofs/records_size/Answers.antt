@@ -5,6 +5,8 @@ use native.Mathlib.Omega.{arith}
 use Rattle.planes.specs.Planes.{Lent, lent}
 use Rattle.decompressor_table.specs.LayoutLaws.{sound-fits, fits-sizes}
 use Rattle.save.specs.LentLaws.{sound-here, length-here}
+use Rattle.decompressor_table.proofs.read.context_at.Reads as context-at-reads
+use Rattle.save.proofs.record.record_size.Reads as record-size-reads
 use Rattle.save.proofs.records_size.Goals as goal
 
 abbrev handed : tie.Start invariant-loop decreases-loop → Lent

@@ -5,6 +5,11 @@ use Rattle.octets.specs.PutLaws.{wrote_then, wrote-length}
 use Rattle.planes.specs.Planes.{lent}
 use Rattle.saves.specs.Saves.{save_of}
 use Rattle.save.specs.LentLaws.{sizes-lent, most-lent, lent-no_room, lent-accepted}
+use Rattle.octets.proofs.put.put16.Reads as put16-reads
+use Rattle.decompressor_walk.proofs.sound.sound.Reads as sound-reads
+use Rattle.save.proofs.put_front.Reads as put-front-reads
+use Rattle.save.proofs.put_records.Reads as put-records-reads
+use Rattle.save.proofs.records_size.Reads as records-size-reads
 use Rattle.save.proofs.save.Goals as goal
 
 pub returns-then-not-sound : goal.returns-then-not-sound

@@ -2,6 +2,8 @@ use native.Mathlib.Omega.{arith}
 use Rattle.planes.specs.Planes.{lent}
 use Rattle.compressor.specs.Lookup.{place_of}
 use Rattle.compressor_table.specs.LayoutLaws.{fits-sizes, table_of-contexts}
+use Rattle.compressor_places.proofs.lookup.lowest_empty.Reads as lowest-empty-reads
+use Rattle.compressor_places.proofs.lookup.lowest_of.Reads as lowest-of-reads
 use Rattle.compressor_places.proofs.lookup.find.Goals as goal
 
 pub bounds-b-1281 : goal.bounds-b-1281

@@ -4,6 +4,8 @@ use Rattle.settings.specs.Settings as settings
 use Rattle.planes.specs.Planes.{lent}
 use Rattle.compressor_table.specs.Layout.{sized}
 use Rattle.compressor_places.proofs.Opened.{open-sized, open-refused, open-accepted}
+use Rattle.compressor_places.proofs.open.put_empty.Reads as put-empty-reads
+use Rattle.settings.proofs.Settings.open.Reads as open-reads
 use Rattle.compressor_places.proofs.open.open.Goals as goal
 
 pub returns-then-not-sized : goal.returns-then-not-sized

@@ -3,6 +3,9 @@ use lib.ListN.{length}
 use Rattle.planes.specs.Planes.{lent}
 use Rattle.compressor_table.specs.LayoutLaws.{sized-true}
 use Rattle.compressor_places.proofs.Opened.{cleared-length, cleared-put, cleared}
+use Rattle.planes.proofs.clear.clear_bytes.Reads as clear-bytes-reads
+use Rattle.planes.proofs.clear.clear_shorts.Reads as clear-shorts-reads
+use Rattle.planes.proofs.clear.clear_words.Reads as clear-words-reads
 use Rattle.compressor_places.proofs.open.put_empty.Goals as goal
 
 pub bounds-b-1280 : goal.bounds-b-1280

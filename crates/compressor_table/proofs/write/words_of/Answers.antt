@@ -6,12 +6,10 @@ use Rattle.planes.specs.PlanesLaws.{drop-places}
 use borrow.Author.Rules.{rules}
 use Rattle.compressor_table.proofs.write.words_of.Goals as goal
 
-many : (c : goal.Start) → length c.args.c.csrc.words ≡ 15
-many c = search rules
-
 pub returns : goal.returns
 returns c =
+    let many : length c.args.c.csrc.words ≡ 15 = search rules in
     let d = c.args.c in
     ap (λ (r : List ℕ). d.flow.source ∷ d.flow.destination ∷ d.flow.ssrc ∷ d.rtp.timestamp ∷ d.deltas.timestamp
     ∷ d.earlier.timestamp ∷ r)
-    (sym (drop-places d.csrc.words 0 15 (sym (many (goal.at.returns c).Start))))
+    (sym (drop-places d.csrc.words 0 15 (sym (many))))

@@ -5,23 +5,25 @@ use Rattle.decompressor_table.specs.LayoutLaws.{Sizes, fits-sizes}
 use Rattle.decompressor_steady.proofs.Stored.{puts_moved}
 use Rattle.decompressor_steady.proofs.store.put_moved.Goals as goal
 
-sizes : (c : goal.Start) → Sizes ((lent c.args.w.now c.args.h.now c.args.b.now))
-sizes c = fits-sizes ((lent c.args.w.now c.args.h.now c.args.b.now)) c.requires.0
-
 pub bounds-w-i : goal.bounds-w-i
-bounds-w-i c = omega (arith, (sizes (goal.at.bounds-w-i c).Start).words)
+bounds-w-i c =
+    let sizes : Sizes ((lent c.args.w.now c.args.h.now c.args.b.now)) = fits-sizes ((lent c.args.w.now c.args.h.now c.args.b.now)) c.requires.0 in omega (arith, (sizes).words)
 
 pub bounds-h-i : goal.bounds-h-i
-bounds-h-i c = omega (arith, (sizes (goal.at.bounds-h-i c).Start).shorts)
+bounds-h-i c =
+    let sizes : Sizes ((lent c.args.w.now c.args.h.now c.args.b.now)) = fits-sizes ((lent c.args.w.now c.args.h.now c.args.b.now)) c.requires.0 in omega (arith, (sizes).shorts)
 
 pub bounds-h-i-2 : goal.bounds-h-i-2
-bounds-h-i-2 c = simp length-set (omega (arith, (sizes (goal.at.bounds-h-i-2 c).Start).shorts))
+bounds-h-i-2 c =
+    let sizes : Sizes ((lent c.args.w.now c.args.h.now c.args.b.now)) = fits-sizes ((lent c.args.w.now c.args.h.now c.args.b.now)) c.requires.0 in simp length-set (omega (arith, (sizes).shorts))
 
 pub bounds-b-i : goal.bounds-b-i
-bounds-b-i c = omega (arith, (sizes (goal.at.bounds-b-i c).Start).bytes)
+bounds-b-i c =
+    let sizes : Sizes ((lent c.args.w.now c.args.h.now c.args.b.now)) = fits-sizes ((lent c.args.w.now c.args.h.now c.args.b.now)) c.requires.0 in omega (arith, (sizes).bytes)
 
 pub bounds-b-i-2 : goal.bounds-b-i-2
-bounds-b-i-2 c = simp length-set (omega (arith, (sizes (goal.at.bounds-b-i-2 c).Start).bytes))
+bounds-b-i-2 c =
+    let sizes : Sizes ((lent c.args.w.now c.args.h.now c.args.b.now)) = fits-sizes ((lent c.args.w.now c.args.h.now c.args.b.now)) c.requires.0 in simp length-set (omega (arith, (sizes).bytes))
 
 pub returns : goal.returns
 returns c =

@@ -3,10 +3,13 @@ use lib.ListN.{length}
 use Rattle.planes.specs.Planes.{lent}
 use Rattle.decompressor_table.specs.LayoutLaws.{fits-sizes, puts-put}
 use borrow.Author.Rules.{rules}
+use Rattle.decompressor_table.proofs.write.bytes_of.Reads as bytes-of-reads
+use Rattle.decompressor_table.proofs.write.put_bytes.Reads as put-bytes-reads
+use Rattle.decompressor_table.proofs.write.put_shorts.Reads as put-shorts-reads
+use Rattle.decompressor_table.proofs.write.put_words.Reads as put-words-reads
+use Rattle.decompressor_table.proofs.write.shorts_of.Reads as shorts-of-reads
+use Rattle.decompressor_table.proofs.write.words_of.Reads as words-of-reads
 use Rattle.decompressor_table.proofs.write.put_context.Goals as goal
-
-many : (c : goal.Start) → length c.args.c.csrc.words ≡ 15
-many c = search rules
 
 pub put_words-requires : goal.put_words-requires
 put_words-requires c =
@@ -18,12 +21,11 @@ put_shorts-requires c =
 
 pub put_bytes-requires : goal.put_bytes-requires
 put_bytes-requires c =
-    let s =
-    c in
-    ((fits-sizes (handed s) s.pre.0).bytes, s.pre.1)
+    ((fits-sizes ((lent c.args.w.now c.args.h.now c.args.b.now)) c.requires.0).bytes, c.requires.1)
 
 pub returns : goal.returns
 returns c =
+    let many : length c.args.c.csrc.words ≡ 15 = search rules in
     rw (
       c.put_words.ensures,
       c.put_shorts.ensures,
@@ -32,4 +34,4 @@ returns c =
       c.shorts_of-y.ensures,
       c.bytes_of-z.ensures,
     )
-    (puts-put ((lent c.args.w.now c.args.h.now c.args.b.now)) c.args.i c.args.c c.requires.0 c.requires.1 (many (goal.at.returns c).Start))
+    (puts-put ((lent c.args.w.now c.args.h.now c.args.b.now)) c.args.i c.args.c c.requires.0 c.requires.1 (many))

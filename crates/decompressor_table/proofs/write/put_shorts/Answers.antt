@@ -14,11 +14,11 @@ loop-p-preserved c =
       omega arith,
       simp length-set l.invariant.3,
       l.invariant.4,
-      l.invariant.5 ∙ replaced-step l.w a.t3 a.i l.p (omega arith),
+      l.invariant.5 ∙ replaced-step l.w a.r a.i l.p (omega arith),
     )
 
 pub returns : goal.returns
 returns c =
     let a = c.args in
     let l = c.loop-p in
-    sym (l.invariant.5 ∙ replaced-end l.w a.t3 a.i l.p (omega arith))
+    sym (l.invariant.5 ∙ replaced-end l.w a.r a.i l.p (omega arith))

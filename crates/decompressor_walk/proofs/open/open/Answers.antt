@@ -4,6 +4,8 @@ use Rattle.settings.specs.Settings as settings
 use Rattle.planes.specs.Planes.{lent}
 use Rattle.decompressor_table.specs.Layout.{sized}
 use Rattle.decompressor_walk.proofs.Opened.{open-sized, open-refused, open-accepted}
+use Rattle.decompressor_walk.proofs.open.put_empty.Reads as put-empty-reads
+use Rattle.settings.proofs.Settings.open.Reads as open-reads
 use Rattle.decompressor_walk.proofs.open.open.Goals as goal
 
 pub returns-then-not-sized : goal.returns-then-not-sized

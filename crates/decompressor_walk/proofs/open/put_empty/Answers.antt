@@ -3,6 +3,9 @@ use lib.ListN.{length}
 use Rattle.planes.specs.Planes.{lent}
 use Rattle.decompressor_table.specs.LayoutLaws.{sized-true}
 use Rattle.decompressor_walk.proofs.Opened.{cleared-length, cleared-put, cleared}
+use Rattle.planes.proofs.clear.clear_bytes.Reads as clear-bytes-reads
+use Rattle.planes.proofs.clear.clear_shorts.Reads as clear-shorts-reads
+use Rattle.planes.proofs.clear.clear_words.Reads as clear-words-reads
 use Rattle.decompressor_walk.proofs.open.put_empty.Goals as goal
 
 pub bounds-b-832 : goal.bounds-b-832

@@ -5,6 +5,9 @@ use Rattle.endpoint.specs.declared.answer.Outcome.{Outcome}
 use Rattle.endpoint.specs.Totals.{totals_of, tallied}
 use Rattle.endpoint.specs.Outcomes.{event_of}
 use Rattle.endpoint.proofs.Routed.{closed-report, reported-at}
+use Rattle.crtp.proofs.report.Reads as report-reads
+use Rattle.endpoint.proofs.answer.reported.Reads as reported-reads
+use Rattle.endpoint.proofs.routes.count_in.Reads as count-in-reads
 use Rattle.endpoint.proofs.routes.report.Goals as goal
 
 pub returns-then-t-ne-COUNT : goal.returns-then-t-ne-COUNT

@@ -5,6 +5,9 @@ use Rattle.endpoint.specs.declared.answer.Outcome.{Outcome}
 use Rattle.endpoint.specs.Totals.{totals_of, tallied}
 use Rattle.endpoint.specs.Outcomes.{event_of}
 use Rattle.endpoint.proofs.Routed.{closed-wire, wired}
+use Rattle.crtp.proofs.send.Reads as send-reads
+use Rattle.endpoint.proofs.answer.sent.Reads as sent-reads
+use Rattle.endpoint.proofs.routes.count_in.Reads as count-in-reads
 use Rattle.endpoint.proofs.routes.wire.Goals as goal
 
 pub returns-then-t-ne-COUNT : goal.returns-then-t-ne-COUNT

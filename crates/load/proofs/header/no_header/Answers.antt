@@ -1,3 +1,4 @@
+use Rattle.packet.proofs.csrc.no_list.Reads as no-list-reads
 use Rattle.load.proofs.header.no_header.Goals as goal
 
 pub returns : goal.returns

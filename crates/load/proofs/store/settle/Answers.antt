@@ -1,5 +1,6 @@
 use Rattle.planes.specs.Planes.{lent}
 use Rattle.load.specs.LoadLaws.{settled-refused, settled-accepted}
+use Rattle.load.proofs.store.store.Reads as store-reads
 use Rattle.load.proofs.store.settle.Goals as goal
 
 pub returns-in-Accepted : goal.returns-in-Accepted

@@ -10,6 +10,8 @@ use Rattle.planes.specs.Planes.{Lent, lent}
 use Rattle.decompressor.specs.declared.table.Table.{Table}
 use Rattle.decompressor_table.specs.LayoutLaws.{fits-sizes, sized-true}
 use Rattle.load.specs.LoadLaws.{storing-more, storing-all}
+use Rattle.decompressor_table.proofs.write.put_context.Reads as put-context-reads
+use Rattle.decompressor_walk.proofs.open.put_empty.Reads as put-empty-reads
 use Rattle.load.proofs.store.store.Goals as goal
 
 abbrev given : Settings → List DecompressorContext → Table

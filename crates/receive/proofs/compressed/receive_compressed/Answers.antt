@@ -16,6 +16,7 @@ use Rattle.decompressor_table.specs.CallsLaws.{gives-kept, gives-by}
 use Rattle.receive.specs.Taken.{Found, found_on}
 use Rattle.receive.proofs.Placing.{here}
 use Rattle.receive.proofs.SteadyWay.{steady-found}
+use Rattle.receive.proofs.compressed.receive_compressed.Goals.{After-context_at-context}
 use Rattle.receive.proofs.compressed.receive_compressed.Goals as goal
 
 number : (s : List ℕ) (g : Got8) → g ≡ context_field s → g.field.value ≡ context_of s
@@ -69,7 +70,7 @@ context_at-context-requires c =
       )),
     )
 
-found : (c : goal.After-context_at-context)
+found : (c : After-context_at-context)
     → Found (handed (c)) (c.read_context-first.result.field.value) c.context_at-context.result (c).read_head.result (c).args.s.now
 found c =
     let k = (c).read-context in
@@ -88,7 +89,7 @@ found c =
       short = c.requires.3;
     }
 
-compressed : (c : goal.After-context_at-context) → let a = (c).args in
+compressed : (c : After-context_at-context) → let a = (c).args in
     found_on a.old a.kind (held (c)) (c.read_context-first.result.field.value) a.s.now a.out.now
     ≡ receive_compressed a.old a.kind (held (c)) a.s.now a.out.now
 compressed c =

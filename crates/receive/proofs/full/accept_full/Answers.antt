@@ -14,6 +14,10 @@ use Rattle.decompressor.specs.TableLaws.{sound-most}
 use Rattle.decompressor_table.specs.CallsLaws.{gives-kept}
 use Rattle.receive.specs.Taken.{accept_full}
 use Rattle.receive.proofs.Placing.{gives-full}
+use Rattle.decompress.proofs.full.fill.Reads as fill-reads
+use Rattle.decompressor_table.proofs.write.put_context.Reads as put-context-reads
+use Rattle.receive.proofs.output.put_packet.Reads as put-packet-reads
+use Rattle.refresh.proofs.fh.read_fh.Reads as read-fh-reads
 use Rattle.receive.proofs.full.accept_full.Goals as goal
 
 pub returns-then-out-size : goal.returns-then-out-size

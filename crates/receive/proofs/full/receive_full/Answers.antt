@@ -10,6 +10,8 @@ use Rattle.decompressor_table.specs.LayoutLaws.{fits-sizes, table_of-contexts}
 use Rattle.decompressor_table.specs.CallsLaws.{gives-kept, gives-by}
 use Rattle.receive.specs.Taken.{accept_full}
 use Rattle.receive.proofs.Placing.{full-good, full-refused}
+use Rattle.receive.proofs.full.accept_full.Reads as accept-full-reads
+use Rattle.refresh.proofs.fh.judge_fh.Reads as judge-fh-reads
 use Rattle.receive.proofs.full.receive_full.Goals as goal
 
 pub bounds-b-833 : goal.bounds-b-833

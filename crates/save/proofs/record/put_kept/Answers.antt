@@ -9,9 +9,6 @@ use native.Mathlib.Omega.{arith}
 use borrow.Author.Rules.{rules}
 use Rattle.save.proofs.record.put_kept.Goals as goal
 
-list-size : (c : goal.Start) → length c.args.c.csrc.words ≡ 15
-list-size c = search rules
-
 pub put8-requires : goal.put8-requires
 put8-requires c = let a = c.args in
     omega (
@@ -42,6 +39,7 @@ put8-at-requires c =
 pub put_header-requires : goal.put_header-requires
 unfolding rebuilt
 put_header-requires c =
+    let list-size : length c.args.c.csrc.words ≡ 15 = search rules in
     let a = c.args in
     let p = c.requires in
     let w = c.put8-at.ensures in
@@ -49,7 +47,7 @@ put_header-requires c =
       record { flags = p.0.flags; payload = p.0.payload; count = p.0.count },
       omega (
         arith,
-        length-header_part a.c (not-false a.c.filled c.if-not-c.false) (omega (arith, p.0.count, list-size (goal.at.put_header-requires c).Start)),
+        length-header_part a.c (not-false a.c.filled c.if-not-c.false) (omega (arith, p.0.count, list-size)),
         p.1,
         w.ends,
         wrote-length w,

@@ -6,15 +6,13 @@ use native.Mathlib.Omega.{arith}
 use borrow.Author.Rules.{rules}
 use Rattle.save.proofs.record.used_size.Goals as goal
 
-list-size : (c : goal.Start) → length c.args.c.csrc.words ≡ 15
-list-size c = search rules
-
 pub returns-then-c : goal.returns-then-c
 unfolding rebuilt
 returns-then-c c =
+    let list-size : length c.args.c.csrc.words ≡ 15 = search rules in
     let a = c.args in
     let p = c.requires in (
-      rw c.size_with.ensures (sym (length-filled a.c 1 c.if-c.true (omega (arith, p.count, list-size (goal.at.returns-then-c c).Start)))),
+      rw c.size_with.ensures (sym (length-filled a.c 1 c.if-c.true (omega (arith, p.count, list-size)))),
       omega (arith, c.size_with.ensures, p.count),
     )
 
