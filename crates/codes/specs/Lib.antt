@@ -6,6 +6,3 @@ pub mod BytesLaws
 pub mod Code
 pub mod CodeLaws
 pub mod Reading
-pub mod ReadingLaws
-pub mod RoundTrip
-pub mod Cases

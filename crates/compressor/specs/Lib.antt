@@ -1,17 +1,6 @@
 pub mod Answer
-pub mod AnswerLaws
 pub mod Table
-pub mod TableLaws
 pub mod Lookup
-pub mod LookupLaws
 pub mod Send
-pub mod SendLaws
-pub mod SentLaws
 pub mod CanSend
-pub mod CanSendLaws
-pub mod FullLaws
-pub mod ValuesLaws
-pub mod SoundLaws
 pub mod Request
-pub mod RequestLaws
-pub mod TypeLaws

@@ -11,7 +11,7 @@ use lib.Dec.{eqb}
 use Rattle.packet.specs.declared.header.Flow.{Flow}
 use Rattle.context.specs.declared.compressor.CompressorContext.{CompressorContext}
 use Rattle.compressor.specs.Lookup.{lowest, is_of}
-use Rattle.compressor.specs.LookupLaws.{lowest-next}
+use Rattle.compressor.proofs.LookupLaws.{lowest-next}
 use Rattle.compressor.specs.Table.{is_empty}
 use Rattle.planes.specs.Planes.{Lent, cell}
 use Rattle.compressor_table.specs.Layout.{context_of, context_in, table_of, Fits}

@@ -17,8 +17,8 @@ use Rattle.compressor.specs.declared.answer.Outcome.TheVariants.{Accepted, Refus
 use Rattle.compressor.specs.declared.table.Table.{Table}
 use Rattle.compressor.specs.Table.{empty_table, open_of}
 use Rattle.planes.specs.Planes.{Lent, lent, row, places, every}
-use Rattle.planes.specs.PlanesLaws.{get_d-zeros, row-zeros, places-replicate}
-use Rattle.planes.specs.EveryLaws.{every_made}
+use Rattle.planes.proofs.PlanesLaws.{get_d-zeros, row-zeros, places-replicate}
+use Rattle.planes.proofs.EveryLaws.{every_made}
 use Rattle.compressor_table.specs.Layout.{context_of, context_in, plane_table, sized, typed_row, typed, table_of}
 use Rattle.compressor_table.specs.LayoutLaws.{Sizes, fits-made, table_of-fits}
 use Rattle.compressor_table.specs.Calls.{Gives, open_lent}

@@ -10,8 +10,8 @@ use Rattle.context.specs.Field.{next_sequence}
 use Rattle.compressor_steady.specs.Steady.{steadied}
 use Rattle.context.specs.declared.compressor.CompressorContext.{CompressorContext}
 use Rattle.planes.specs.Planes.{Lent, lent, row, replaced}
-use Rattle.planes.specs.PlanesLaws.{replaced-row, set-replaced}
-use Rattle.planes.specs.EveryLaws.{every-at}
+use Rattle.planes.proofs.PlanesLaws.{replaced-row, set-replaced}
+use Rattle.planes.proofs.EveryLaws.{every-at}
 use Rattle.compressor_table.specs.Layout.{context_of, context_in, words_of, shorts_of, bytes_of, typed, Fits, Puts}
 use Rattle.compressor_table.specs.LayoutLaws.{Typed, typed_row-true, fits-typed, bytes-forth, puts-put}
 

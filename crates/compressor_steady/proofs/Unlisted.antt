@@ -15,8 +15,8 @@ use Rattle.context.proofs.SoundFacts.{used_sound-bounds}
 use Rattle.context.proofs.Unfilled.{sound_list-none}
 use Rattle.compressor.specs.declared.table.Table.{Table}
 use Rattle.compressor.specs.Table.{context_at, sound_of}
-use Rattle.compressor.specs.TableLaws.{sound_of-true}
-use Rattle.compressor.specs.CanSendLaws.{sound-context_at}
+use Rattle.compressor.proofs.TableLaws.{sound_of-true}
+use Rattle.compressor.proofs.CanSendLaws.{sound-context_at}
 use Rattle.planes.specs.Planes.{Lent}
 use Rattle.compressor_table.specs.Layout.{context_of, context_in, table_of, Fits}
 use Rattle.compressor_table.specs.LayoutLaws.{table_of-at, length-table_of}

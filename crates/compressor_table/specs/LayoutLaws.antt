@@ -10,11 +10,11 @@ use Rattle.context.specs.declared.compressor.Usage.TheVariants.{Empty, Live}
 use Rattle.context.specs.declared.compressor.CompressorContext.{CompressorContext}
 use Rattle.compressor.specs.declared.table.Table.{Table}
 use Rattle.compressor.specs.Table.{context_at, with_context, no_context, empty_by, unopened, sound_of}
-use Rattle.compressor.specs.TableLaws.{unsound-unopened}
+use Rattle.compressor.proofs.TableLaws.{unsound-unopened}
 use Rattle.planes.specs.Planes.{Lent, lent, cell, row, replaced, places, every}
-use Rattle.planes.specs.PlanesLaws.{length-replaced, row_same, row_other, replaced-row, get_d_past}
-use Rattle.planes.specs.PlanesLaws.{places-at, places-set, length-places}
-use Rattle.planes.specs.EveryLaws.{every-at, every_made}
+use Rattle.planes.proofs.PlanesLaws.{length-replaced, row_same, row_other, replaced-row, get_d_past}
+use Rattle.planes.proofs.PlanesLaws.{places-at, places-set, length-places}
+use Rattle.planes.proofs.EveryLaws.{every-at, every_made}
 use Rattle.compressor_table.specs.Layout.{usage_of, context_of, flow_of, ip_of, rtp_of, list_of, deltas_of, earlier_of, due_of, link_of}
 use Rattle.compressor_table.specs.Layout.{context_in, plane_table, sized, typed_row, typed, fits, table_of, Fits, Puts}
 use Rattle.compressor_table.specs.Layout.{usage_number, bit, words_of, shorts_of, bytes_of}

@@ -16,12 +16,12 @@ use Rattle.context.specs.Sound.{sound_compressor_by, sound_compressor}
 use Rattle.context.specs.declared.compressor.Usage.TheVariants.{Empty, Live}
 use Rattle.context.specs.declared.compressor.CompressorContext.{CompressorContext}
 use Rattle.compressor.specs.Table.{is_empty, sound_of, unopened}
-use Rattle.compressor.specs.TableLaws.{unsound-unopened}
+use Rattle.compressor.proofs.TableLaws.{unsound-unopened}
 use Rattle.compressor.specs.declared.table.Table.{Table}
 use Rattle.planes.specs.Planes.{Lent, cell, row, places, every}
-use Rattle.planes.specs.EveryLaws.{every-and, every-same, every-swap, every-at, every_made}
-use Rattle.planes.specs.EveryLaws.{all-places, tail-places, every_given, passed}
-use Rattle.planes.specs.ChainLaws.{Chain, none, leaf, both, eval, implied, same, absorbed, absorbed', under, one-zero}
+use Rattle.planes.proofs.EveryLaws.{every-and, every-same, every-swap, every-at, every_made}
+use Rattle.planes.proofs.EveryLaws.{all-places, tail-places, every_given, passed}
+use Rattle.planes.proofs.ChainLaws.{Chain, none, leaf, both, eval, implied, same, absorbed, absorbed', under, one-zero}
 use Rattle.compressor_table.specs.Layout.{usage_of, context_of, context_in, plane_table, sized, typed, fits, table_of}
 use Rattle.compressor_table.specs.LayoutLaws.{empty-status}
 use Rattle.compressor_walk.specs.Walk.{head_test, due_test, short_test, word_test, past_at, free_at, unused_at}

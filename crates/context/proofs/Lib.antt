@@ -15,3 +15,4 @@ pub mod DecompressorSound
 pub mod DecompressorRange
 pub mod PartsLaws
 pub mod Unfilled
+pub mod Cases

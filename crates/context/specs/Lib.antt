@@ -4,4 +4,3 @@ pub mod Decompressor
 pub mod All
 pub mod Sound
 pub mod Ranges
-pub mod Cases

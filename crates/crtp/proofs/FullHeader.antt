@@ -12,7 +12,7 @@ use lib.ListN.{length}
 use Rattle.settings.specs.declared.Settings.{Settings}
 use Rattle.compressor.specs.declared.table.Table as compressor
 use Rattle.compressor.specs.Send.{send_of}
-use Rattle.compressor.specs.SendLaws.{On, table_at, kind_at, bytes_at}
+use Rattle.compressor.proofs.SendLaws.{On, table_at, kind_at, bytes_at}
 use Rattle.decompressor.specs.declared.table.Table as decompressor
 use Rattle.decompressor.specs.Receive.{receive_of}
 use Rattle.calls.specs.Calls as calls

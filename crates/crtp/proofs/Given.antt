@@ -15,13 +15,13 @@ use Rattle.codes.specs.Reading.{byte_at}
 use Rattle.packet.specs.declared.header.Header.{Header}
 use Rattle.settings.specs.declared.Settings.{Settings}
 use Rattle.headers.specs.Header.{header_of, header_size}
-use Rattle.headers.specs.HeaderLaws.{header_of-range}
+use Rattle.headers.proofs.HeaderLaws.{header_of-range}
 use Rattle.codes.proofs.BytesRead.{AllBytes-drop}
 use Rattle.links.specs.Fh.{fh_of}
-use Rattle.links.specs.FhLaws.{FhFits, AllBytes-fh_bytes, fh_of-fh_bytes}
+use Rattle.links.proofs.FhLaws.{FhFits, AllBytes-fh_bytes, fh_of-fh_bytes}
 use Rattle.links.specs.declared.fh.FullHeader as fh
-use Rattle.links.specs.CuLaws.{first-cu_bytes, AllBytes-cu_bytes}
-use Rattle.links.specs.CrLaws.{first-cr_bytes, AllBytes-cr_bytes}
+use Rattle.links.proofs.CuLaws.{first-cu_bytes, AllBytes-cu_bytes}
+use Rattle.links.proofs.CrLaws.{first-cr_bytes, AllBytes-cr_bytes}
 use Rattle.context.specs.Compressor.{full_header, Going}
 use Rattle.context.proofs.PartsLaws.{LinkType, full-header, compressed-udp, compressed-rtp}
 use Rattle.outgoing.specs.Outgoing.{link_by, link_bytes}
@@ -30,9 +30,9 @@ use Rattle.compressor.specs.declared.table.Table as compressor
 use Rattle.compressor.specs.Answer as sending
 use Rattle.compressor.specs.Table as compressing
 use Rattle.compressor.specs.Send.{send_of}
-use Rattle.compressor.specs.SendLaws.{On, step_at, table_at, kind_at, bytes_at, Goes, goes-refused, goes-plain, goes_on, send_of-goes}
-use Rattle.compressor.specs.CanSendLaws.{sound-most, CanSend-on}
-use Rattle.compressor.specs.SoundLaws.{sound-context}
+use Rattle.compressor.proofs.SendLaws.{On, step_at, table_at, kind_at, bytes_at, Goes, goes-refused, goes-plain, goes_on, send_of-goes}
+use Rattle.compressor.proofs.CanSendLaws.{sound-most, CanSend-on}
+use Rattle.compressor.proofs.SoundLaws.{sound-context}
 use Rattle.decompressor.proofs.ReceiveSound.{named}
 use Rattle.calls.specs.Calls as calls
 use Rattle.crtp.specs.Robust.{Bytes}

@@ -14,15 +14,15 @@ use Rattle.context.proofs.Others.{related-requested}
 use Rattle.compressor.specs.declared.table.Table as compressor
 use Rattle.compressor.specs.Table as compressing
 use Rattle.compressor.specs.Send.{send_of}
-use Rattle.compressor.specs.SendLaws.{On}
+use Rattle.compressor.proofs.SendLaws.{On}
 use Rattle.compressor.specs.Request.{request_of}
-use Rattle.compressor.specs.RequestLaws.{request-asks}
+use Rattle.compressor.proofs.RequestLaws.{request-asks}
 use Rattle.decompressor.specs.declared.table.Table as decompressor
 use Rattle.decompressor.specs.Answer as receiving
 use Rattle.decompressor.specs.Table as decompressing
 use Rattle.decompressor.specs.Receive.{receive_of}
 use Rattle.saves.specs.Saves.{save_of, load_of}
-use Rattle.saves.specs.SavesLaws.{load-save}
+use Rattle.saves.proofs.SavesLaws.{load-save}
 use Rattle.calls.specs.Calls as calls
 use Rattle.calls.proofs.Laws as calls-laws
 use Rattle.crtp.specs.Robust.{Bytes, checksum_fits, Rebuilt}

@@ -16,7 +16,7 @@ use Rattle.decompressor.specs.declared.table.Table as decompressor
 use Rattle.decompressor.specs.Answer as receiving
 use Rattle.decompressor.specs.Receive.{receive_of}
 use Rattle.saves.specs.Saves.{save_of, load_of}
-use Rattle.saves.specs.SavesLaws.{table-save_of}
+use Rattle.saves.proofs.SavesLaws.{table-save_of}
 use Rattle.calls.specs.Calls as calls
 use Rattle.calls.proofs.Always.{always-each}
 use Rattle.crtp.specs.Robust.{Bytes, Call, send, request, arrival, save, load, other, Sent, Saved, World, given_out, saved_by}

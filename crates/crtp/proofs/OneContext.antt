@@ -11,22 +11,22 @@ use lib.ListN.{length}
 use lib.Seq.{get_or-set_same, take-append_seam}
 use Rattle.settings.specs.declared.Settings.{Settings}
 use Rattle.headers.specs.Header.{header_of}
-use Rattle.headers.specs.HeaderLaws.{header_of-range}
+use Rattle.headers.proofs.HeaderLaws.{header_of-range}
 use Rattle.context.proofs.Relation.{Related, Arrives}
 use Rattle.context.specs.declared.decompressor.DecompressorContext.{DecompressorContext}
 use Rattle.context.specs.Compressor.{full_header}
 use Rattle.outgoing.specs.StepLaws.{lost-step_on, arrives-step_on, full-step_on}
 use Rattle.compressor.specs.declared.table.Table as compressor
 use Rattle.compressor.specs.Table as compressing
-use Rattle.compressor.specs.SendLaws.{On, step_at, table_at, kind_at, bytes_at}
-use Rattle.compressor.specs.CanSendLaws.{sound-repeats}
-use Rattle.compressor.specs.SoundLaws.{context_at-same, context_at-other}
+use Rattle.compressor.proofs.SendLaws.{On, step_at, table_at, kind_at, bytes_at}
+use Rattle.compressor.proofs.CanSendLaws.{sound-repeats}
+use Rattle.compressor.proofs.SoundLaws.{context_at-same, context_at-other}
 use Rattle.decompressor.specs.declared.table.Table as decompressor
 use Rattle.decompressor.specs.Answer as receiving
 use Rattle.decompressor.specs.Table as decompressing
-use Rattle.decompressor.specs.TableLaws.{sound_of-made, sound-most}
+use Rattle.decompressor.proofs.TableLaws.{sound_of-made, sound-most}
 use Rattle.decompressor.specs.Receive.{receive_of}
-use Rattle.decompressor.specs.ReceiveLaws.{receive-plain}
+use Rattle.decompressor.proofs.ReceiveLaws.{receive-plain}
 use Rattle.decompressor.proofs.ReceiveSound.{context_at-receive}
 use Rattle.calls.specs.Calls as calls
 use Rattle.crtp.specs.Robust.{Bytes, checksum_fits, Rebuilt}

@@ -9,10 +9,10 @@ use Rattle.settings.specs.Settings as settings
 use Rattle.settings.specs.declared.Settings.{Settings}
 use Rattle.compressor.specs.declared.table.Table as compressor
 use Rattle.compressor.specs.Table as compressing
-use Rattle.compressor.specs.TableLaws as compressing-laws
+use Rattle.compressor.proofs.TableLaws as compressing-laws
 use Rattle.decompressor.specs.declared.table.Table as decompressor
 use Rattle.decompressor.specs.Table as decompressing
-use Rattle.decompressor.specs.TableLaws as decompressing-laws
+use Rattle.decompressor.proofs.TableLaws as decompressing-laws
 use Rattle.calls.specs.Calls as calls
 use Rattle.calls.specs.Literal.{Literal}
 use Rattle.calls.proofs.Faithful.{answered, faithful}

@@ -19,14 +19,14 @@ use Rattle.context.specs.declared.decompressor.DecompressorContext.{Decompressor
 use Rattle.context.proofs.Others.{related-empty}
 use Rattle.compressor.specs.declared.table.Table as compressor
 use Rattle.compressor.specs.Table as compressing
-use Rattle.compressor.specs.TableLaws as compressing-laws
+use Rattle.compressor.proofs.TableLaws as compressing-laws
 use Rattle.compressor.specs.Send.{send_of}
-use Rattle.compressor.specs.SoundLaws.{sound-send, settings-send, length-send, held-send}
+use Rattle.compressor.proofs.SoundLaws.{sound-send, settings-send, length-send, held-send}
 use Rattle.compressor.specs.Request.{request_of}
-use Rattle.compressor.specs.RequestLaws.{request-asks, sound-request, held-request}
+use Rattle.compressor.proofs.RequestLaws.{request-asks, sound-request, held-request}
 use Rattle.decompressor.specs.declared.table.Table as decompressor
 use Rattle.decompressor.specs.Table as decompressing
-use Rattle.decompressor.specs.TableLaws as decompressing-laws
+use Rattle.decompressor.proofs.TableLaws as decompressing-laws
 use Rattle.decompressor.specs.Receive.{receive_of}
 use Rattle.decompressor.proofs.ReceiveSound.{sound-receive, settings-receive, length-receive, range-receive}
 use Rattle.crtp.specs.Robust.{Bytes}

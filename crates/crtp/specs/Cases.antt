@@ -4,7 +4,7 @@
 use Rattle.std.specs.Prelude.{ℕ, ◌/◌, ◌%◌, ◌≡◌, refl, List, [], ◌∷◌, ◌++◌, map, take, replicate}
 use Rattle.settings.specs.Settings as settings
 use Rattle.octets.specs.Sum.{plus}
-use Rattle.codes.specs.Cases as codes
+use Rattle.codes.proofs.Cases as codes
 use Rattle.codes.specs.Code.{code_of}
 use Rattle.codes.specs.Difference.{difference, sum, has_code}
 use Rattle.codes.specs.Reading.{read_byte, read_word, read_long, read_by}
@@ -26,7 +26,7 @@ use Rattle.links.specs.Cr.{cr_bytes, second_with, second_of, deltas_of, cr_rest,
 use Rattle.links.specs.Cs.{cs_bytes, record_with, record_judged, request_judged}
 use Rattle.links.specs.Cu.{cu_bytes, changes_of, values_of, cu_rest, cu_of}
 use Rattle.links.specs.Fh.{fh_bytes, fields_form, fh_judged, fh_of}
-use Rattle.links.specs.FhPacketLaws.{with_lengths}
+use Rattle.links.proofs.FhPacketLaws.{with_lengths}
 use Rattle.links.specs.Head.{head_of}
 use Rattle.links.specs.Whole.{fixed_of, rtp_rest, rtp_of, whole_of}
 use Rattle.packet.specs.Csrc.{same_list}

@@ -18,7 +18,7 @@ pub use Rattle.compressor.specs.Answer as sending
 pub use Rattle.compressor.specs.Table.{unopened as no_compressor, open_of as open_compressor_of}
 pub use Rattle.compressor.specs.Send.{send_of}
 pub use Rattle.compressor.specs.Request.{request_of}
-pub use Rattle.compressor.specs.TypeLaws.{send_of-type}
+pub use Rattle.compressor.proofs.TypeLaws.{send_of-type}
 -- the decompressor's
 pub use Rattle.decompressor.specs.declared.table.Table.{Table as DecompressorTable}
 pub use Rattle.decompressor.specs.declared.answer.Outcome.{Outcome as DecompressorOutcome}
@@ -32,7 +32,7 @@ pub use Rattle.report.specs.Report.{report_of}
 pub use Rattle.report.specs.ReportLaws.{table-report_of}
 pub use Rattle.saves.specs.Saves.{save_of, load_of}
 pub use Rattle.load.specs.Load.{load_lent}
-pub use Rattle.saves.specs.SavesLaws.{table-save_of, load-save}
-pub use Rattle.saves.specs.LoadLaws.{load_read}
+pub use Rattle.saves.proofs.SavesLaws.{table-save_of, load-save}
+pub use Rattle.saves.proofs.LoadLaws.{load_read}
 -- both
 pub use Rattle.crtp.specs.FaceLaws.{open-alike, open-leaves, send-closed, request-closed, receive-closed, report-closed}

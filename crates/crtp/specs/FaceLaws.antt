@@ -4,13 +4,13 @@ use Rattle.std.specs.Prelude.{ℕ, ◌≡◌, refl, Bool, true, false, cond, Lis
 use Rattle.settings.specs.Settings as settings
 use Rattle.compressor.specs.Answer as sending
 use Rattle.compressor.specs.Table as compressing
-use Rattle.compressor.specs.TableLaws as compressed
+use Rattle.compressor.proofs.TableLaws as compressed
 use Rattle.compressor.specs.Send.{send_of}
 use Rattle.compressor.specs.Request.{request_of}
 use Rattle.compressor.specs.declared.table.Table.{Table as CompressorTable}
 use Rattle.decompressor.specs.Answer as receiving
 use Rattle.decompressor.specs.Table as decompressing
-use Rattle.decompressor.specs.TableLaws as decompressed
+use Rattle.decompressor.proofs.TableLaws as decompressed
 use Rattle.decompressor.specs.Receive.{receive_by, receive_of}
 use Rattle.decompressor.specs.declared.table.Table.{Table as DecompressorTable}
 use Rattle.report.specs.Report.{report_of}

@@ -14,7 +14,7 @@ use Rattle.packet.specs.declared.header.Header.{Header}
 use Rattle.headers.specs.Header.{header_size}
 use Rattle.headers.specs.Checksum.{ip_checksum, printed}
 use Rattle.headers.specs.UdpChecksum.{udp_checksum_of, udp_right}
-use Rattle.headers.specs.UdpChecksumLaws.{udp_right-blank, udp_checksum-header_bytes}
+use Rattle.headers.proofs.UdpChecksumLaws.{udp_right-blank, udp_checksum-header_bytes}
 use Rattle.context.specs.Decompressor.{broke, checksum_read, rebuilt}
 use Rattle.context.specs.declared.decompressor.DecompressorContext.{DecompressorContext}
 use Rattle.decompressor.specs.declared.table.Table.{Table}

@@ -21,12 +21,12 @@ use Rattle.links.specs.declared.head.Head.{Head}
 use Rattle.links.specs.declared.head.ReadParts.{ReadParts}
 use Rattle.links.specs.declared.whole.ReadWhole.{ReadWhole}
 use Rattle.links.specs.Head.{context_of, head_of}
-use Rattle.links.specs.HeadLaws.{context_of-first, head_of-low}
+use Rattle.links.proofs.HeadLaws.{context_of-first, head_of-low}
 use Rattle.links.specs.Cu.{cu_flags_of, cu_of}
 use Rattle.links.specs.Cr.{cr_of}
 use Rattle.links.specs.Whole.{whole_of}
 use Rattle.links.specs.Fh.{fh_judged, fh_of}
-use Rattle.links.specs.FhLaws.{fh_of-context, fh_of-generation, fh_of-link, fh_of-range}
+use Rattle.links.proofs.FhLaws.{fh_of-context, fh_of-generation, fh_of-link, fh_of-range}
 use Rattle.links.proofs.Range as links
 use Rattle.context.specs.Ranges.{ContextInRange}
 use Rattle.context.specs.Sound.{sound_decompressor}
@@ -49,7 +49,7 @@ use Rattle.decompressor.specs.declared.old.OldForm.TheVariants.{Taken}
 use Rattle.decompressor.specs.declared.table.Table.{Table}
 use Rattle.decompressor.specs.Answer.{Result, accepted, refused, delivered}
 use Rattle.decompressor.specs.Table.{no_context, sound_of, context_at, with_context, Sound}
-use Rattle.decompressor.specs.TableLaws.{sound_of-true, sound-context_at, sound-with_context}
+use Rattle.decompressor.proofs.TableLaws.{sound_of-true, sound-context_at, sound-with_context}
 use Rattle.decompressor.specs.Receive.{packet_of, receive_plain, full_table, receive_full_by, receive_full, rebuild_to}
 use Rattle.decompressor.specs.Receive.{is_disproved, settle, settle_read}
 use Rattle.decompressor.specs.Receive.{receive_parts, receive_whole, receive_old, receive_udp, receive_rtp, receive_on}

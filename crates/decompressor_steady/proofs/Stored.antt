@@ -7,7 +7,7 @@ use native.Mathlib.Omega.{arith}
 use lib.ListN.{length, set}
 use Rattle.context.specs.declared.decompressor.DecompressorContext.{DecompressorContext}
 use Rattle.planes.specs.Planes.{Lent, lent, replaced}
-use Rattle.planes.specs.PlanesLaws.{set-replaced}
+use Rattle.planes.proofs.PlanesLaws.{set-replaced}
 use Rattle.decompressor_table.specs.Layout.{context_of, context_in, words_of, shorts_of, bytes_of, bit, Fits, Puts}
 use Rattle.decompressor_table.specs.LayoutLaws.{fits-typed, put, put_same, lent_same, puts-put}
 use Rattle.decompressor_steady.specs.Steady.{moved_to}

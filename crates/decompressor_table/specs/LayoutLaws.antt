@@ -10,11 +10,11 @@ use Rattle.context.specs.declared.decompressor.Status.TheVariants.{Empty, Live, 
 use Rattle.context.specs.declared.decompressor.DecompressorContext.{DecompressorContext}
 use Rattle.decompressor.specs.declared.table.Table.{Table}
 use Rattle.decompressor.specs.Table.{context_at, with_context, no_context, unopened, sound_of}
-use Rattle.decompressor.specs.TableLaws.{unsound-unopened}
+use Rattle.decompressor.proofs.TableLaws.{unsound-unopened}
 use Rattle.planes.specs.Planes.{Lent, lent, cell, row, replaced, places, every}
-use Rattle.planes.specs.PlanesLaws.{length-replaced, row_same, row_other, replaced-row, get_d_past}
-use Rattle.planes.specs.PlanesLaws.{places-at, places-set, length-places}
-use Rattle.planes.specs.EveryLaws.{every-at, every_made}
+use Rattle.planes.proofs.PlanesLaws.{length-replaced, row_same, row_other, replaced-row, get_d_past}
+use Rattle.planes.proofs.PlanesLaws.{places-at, places-set, length-places}
+use Rattle.planes.proofs.EveryLaws.{every-at, every_made}
 use Rattle.decompressor_table.specs.Layout.{status_of, context_of, flow_of, ip_of, rtp_of, list_of, deltas_of, link_of}
 use Rattle.decompressor_table.specs.Layout.{context_in, plane_table, sized, typed_row, typed, fits, table_of, Fits, Puts}
 use Rattle.decompressor_table.specs.Layout.{status_number, bit, words_of, shorts_of, bytes_of}

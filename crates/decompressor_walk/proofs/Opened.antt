@@ -17,8 +17,8 @@ use Rattle.decompressor.specs.declared.answer.Outcome.TheVariants.{Accepted, Ref
 use Rattle.decompressor.specs.declared.table.Table.{Table}
 use Rattle.decompressor.specs.Table.{empty_table, open_of}
 use Rattle.planes.specs.Planes.{Lent, lent, row, places, every}
-use Rattle.planes.specs.PlanesLaws.{get_d-zeros, row-zeros, places-replicate}
-use Rattle.planes.specs.EveryLaws.{every_made}
+use Rattle.planes.proofs.PlanesLaws.{get_d-zeros, row-zeros, places-replicate}
+use Rattle.planes.proofs.EveryLaws.{every_made}
 use Rattle.decompressor_table.specs.Layout.{context_of, context_in, plane_table, sized, typed_row, typed, table_of, Fits}
 use Rattle.decompressor_table.specs.LayoutLaws.{Sizes, fits-made, table_of-fits}
 use Rattle.decompressor_table.specs.Calls.{Gives, open_lent}

@@ -16,12 +16,12 @@ use Rattle.context.specs.Sound.{sound_decompressor_by, sound_decompressor}
 use Rattle.context.specs.declared.decompressor.Status.TheVariants.{Empty, Live, Broken}
 use Rattle.context.specs.declared.decompressor.DecompressorContext.{DecompressorContext}
 use Rattle.decompressor.specs.Table.{empty_by, is_empty, sound_of, unopened}
-use Rattle.decompressor.specs.TableLaws.{unsound-unopened}
+use Rattle.decompressor.proofs.TableLaws.{unsound-unopened}
 use Rattle.decompressor.specs.declared.table.Table.{Table}
 use Rattle.planes.specs.Planes.{Lent, cell, row, places, every}
-use Rattle.planes.specs.EveryLaws.{every-and, every-same, every-swap, every-at, every_made, every_true}
-use Rattle.planes.specs.EveryLaws.{all-places, tail-places, every_given, passed}
-use Rattle.planes.specs.ChainLaws.{Chain, none, leaf, both, eval, implied, same, absorbed, absorbed', under, one-zero}
+use Rattle.planes.proofs.EveryLaws.{every-and, every-same, every-swap, every-at, every_made, every_true}
+use Rattle.planes.proofs.EveryLaws.{all-places, tail-places, every_given, passed}
+use Rattle.planes.proofs.ChainLaws.{Chain, none, leaf, both, eval, implied, same, absorbed, absorbed', under, one-zero}
 use Rattle.decompressor_table.specs.Layout.{status_of, flow_of, ip_of, rtp_of, list_of, deltas_of, link_of, context_of}
 use Rattle.decompressor_table.specs.Layout.{context_in, plane_table, sized, typed, fits, table_of}
 use Rattle.decompressor_walk.specs.Walk.{byte_test, short_test, word_test, past_at, free_at, unused_at}

@@ -16,7 +16,7 @@ use Rattle.codes.specs.Code.{Row, rows, among}
 use Rattle.codes.specs.Difference.{has_code}
 use Rattle.codes.specs.Reading.{Reading, accepted, refused, has, byte_at, word_at, long_at, triple_at, field_at, read_byte, read_word}
 use Rattle.codes.specs.Reading.{read_long, read_delta, read_by, value_in, code_at}
-use Rattle.codes.specs.RoundTrip.{left_after}
+use Rattle.codes.proofs.RoundTrip.{left_after}
 use Rattle.codes.proofs.BytesRead.{AllBytes-byte_at}
 use Rattle.packet.specs.Ranges.{ListSound, ListInRange, Sendable}
 use Rattle.packet.specs.RangesLaws.{zero-words, sendable-zero}

@@ -11,8 +11,8 @@ use Rattle.codes.specs.Bytes.{big_endian}
 use Rattle.codes.specs.Code.{code_of}
 use Rattle.codes.specs.Difference.{has_code}
 use Rattle.codes.specs.Reading.{Reading, accepted, read_byte, read_word, read_long, read_delta}
-use Rattle.codes.specs.RoundTrip.{left_after, left-length, read_byte-written, read_word-written, read_long-written, read_delta-16}
-use Rattle.codes.specs.RoundTrip.{read_delta-32}
+use Rattle.codes.proofs.RoundTrip.{left_after, left-length, read_byte-written, read_word-written, read_long-written, read_delta-16}
+use Rattle.codes.proofs.RoundTrip.{read_delta-32}
 use Rattle.packet.specs.Ranges.{ListInRange}
 use Rattle.packet.specs.declared.csrc.Csrc.{Csrc}
 use Rattle.octets.specs.Put.{optional, words, list_bytes}

@@ -5,10 +5,3 @@ pub mod UdpChecksum
 pub mod Compressible
 pub mod RtpLaws
 pub mod ListLaws
-pub mod CompressibleLaws
-pub mod ChecksumLaws
-pub mod UdpChecksumLaws
-pub mod HeaderLaws
-pub mod RoundTrip
-pub mod Cases
-pub mod UdpCases

@@ -1,17 +1,7 @@
 pub mod Fh
-pub mod FhLaws
-pub mod FhPacketLaws
-pub mod FhFormLaws
 pub mod Cs
-pub mod CsLaws
 pub mod Sent
-pub mod SentLaws
-pub mod FitsLaws
 pub mod Head
-pub mod HeadLaws
 pub mod Cu
-pub mod CuLaws
 pub mod Cr
-pub mod CrLaws
 pub mod Whole
-pub mod WholeLaws

@@ -5,7 +5,7 @@
 // back the place past its last field, where the rest of the packet starts; a refusal is the outcome of that place.
 // There is no function here: `refresh` reads and writes FH and CS, `links_read` and `links_write` CU and CR. What becomes of a
 // context is not decided here.
-// Read `specs/Cu.antt` first, and `specs/CuLaws.antt`, which holds its two directions together.
+// Read `specs/Cu.antt` first, and `proofs/CuLaws.antt`, which holds its two directions together.
 #![tactic(auto)]
 
 pub mod cr;

@@ -24,8 +24,8 @@ use Rattle.decompressor_table.specs.Calls.{Gives}
 use Rattle.decompressor_table.specs.CallsLaws.{gives-kept, gives-accepted, gives-by}
 use Rattle.saves.specs.declared.read.Front.{Front}
 use Rattle.saves.specs.declared.read.GotContexts.{GotContexts}
-use Rattle.saves.specs.KeptLaws.{kept_form-true}
-use Rattle.saves.specs.LoadLaws.{front_of-read}
+use Rattle.saves.proofs.KeptLaws.{kept_form-true}
+use Rattle.saves.proofs.LoadLaws.{front_of-read}
 use Rattle.saves.specs.Saves.{allowed, kept_form, records_of, front_of, settled, load_records, load_of}
 use Rattle.load.specs.Load.{load_lent}
 

@@ -9,7 +9,7 @@ use Rattle.packet.specs.declared.parts.Parts.{Parts}
 use Rattle.octets.specs.Put.{optional}
 use Rattle.octets.specs.PutLaws.{length-optional-le}
 use Rattle.headers.specs.Header.{header_size}
-use Rattle.headers.specs.HeaderLaws.{length-header_bytes}
+use Rattle.headers.proofs.HeaderLaws.{length-header_bytes}
 use Rattle.headers.specs.Checksum.{ip_checksum}
 use Rattle.links.specs.Fh.{ip_field, fh_bytes}
 use Rattle.links_write.specs.Size.{cu_size, cr_size}

@@ -10,8 +10,8 @@ use Rattle.packet.specs.Csrc.{no_list}
 use Rattle.packet.specs.Ranges.{HeaderInRange}
 use Rattle.packet.specs.declared.csrc.Csrc.{Csrc}
 use Rattle.packet.specs.declared.header.Header.{Header}
-use Rattle.links.specs.FitsLaws.{CuFits, CrFits}
-use Rattle.links.specs.FhLaws.{FhFits}
+use Rattle.links.proofs.FitsLaws.{CuFits, CrFits}
+use Rattle.links.proofs.FhLaws.{FhFits}
 use Rattle.context.specs.Compressor.{full_header, compressed_udp, compressed_rtp, Going, first_step, step_of, parts_of, list_if, begun}
 use Rattle.context.specs.Compressor.{reset, checksum_sent}
 use Rattle.context.proofs.Relation.{Held, Related, Arrives, is_full}

@@ -1,4 +1,1 @@
 pub mod Planes
-pub mod PlanesLaws
-pub mod EveryLaws
-pub mod ChainLaws

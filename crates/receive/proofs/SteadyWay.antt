@@ -37,7 +37,7 @@ use Rattle.decompressor.specs.declared.answer.Outcome.TheVariants.{Accepted}
 use Rattle.decompressor.specs.declared.old.OldForm.{OldForm}
 use Rattle.decompressor.specs.declared.table.Table.{Table}
 use Rattle.decompressor.specs.Answer.{Result}
-use Rattle.decompressor.specs.PacketLaws.{length-packet_of, said-accepted}
+use Rattle.decompressor.proofs.PacketLaws.{length-packet_of, said-accepted}
 use Rattle.decompressor.specs.Receive.{packet_of, rebuild_to, settle_read, receive_parts, receive_udp, receive_rtp, receive_on}
 use Rattle.decompressor.specs.Table.{context_at, with_context}
 use Rattle.planes.specs.Planes.{Lent}

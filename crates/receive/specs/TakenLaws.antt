@@ -10,7 +10,7 @@ use Rattle.links.specs.declared.head.Head.{Head}
 use Rattle.links.specs.declared.head.ReadParts.{ReadParts}
 use Rattle.links.specs.declared.whole.ReadWhole.{ReadWhole}
 use Rattle.links.specs.Head.{head_of}
-use Rattle.links.specs.HeadLaws.{head_of-low, head_of-within}
+use Rattle.links.proofs.HeadLaws.{head_of-low, head_of-within}
 use Rattle.links.specs.Cu.{cu_flags_of, cu_of}
 use Rattle.links.specs.Cr.{cr_of}
 use Rattle.links.specs.Whole.{whole_of}
@@ -29,7 +29,7 @@ use Rattle.receive.specs.declared.settle.Taken.{Taken}
 use Rattle.receive.specs.declared.settle.Arrived.{Arrived}
 use Rattle.decompressor.specs.Answer.{Result, accepted, refused, delivered}
 use Rattle.decompressor.specs.Table.{no_context, context_at, with_context, Sound}
-use Rattle.decompressor.specs.TableLaws.{sound-repeats, sound-context_at}
+use Rattle.decompressor.proofs.TableLaws.{sound-repeats, sound-context_at}
 use Rattle.decompressor.specs.Receive.{packet_of, is_disproved, rebuild_to, settle_read, receive_parts, receive_whole, receive_old}
 use Rattle.decompressor.specs.Receive.{receive_udp, receive_rtp, receive_on}
 use Rattle.decompressor.specs.declared.old.OldForm.{OldForm}

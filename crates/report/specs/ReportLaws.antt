@@ -6,8 +6,8 @@ use Rattle.std.proofs.lemmas.Bool.{false≢true}
 use Rattle.std.proofs.Math.Bool.{and-eq-true_iff}
 use Rattle.std.proofs.Math.Nat.{sub-zero}
 use Rattle.links.specs.Cs.{State, records_bytes, cs_bytes, request_judged}
-use Rattle.links.specs.CsLaws.{StateFits, StatesFit, none-fit, more-fit, length-records_bytes, length-cs_bytes, records_bytes-append}
-use Rattle.links.specs.CsLaws.{request_judged-cs_bytes}
+use Rattle.links.proofs.CsLaws.{StateFits, StatesFit, none-fit, more-fit, length-records_bytes, length-cs_bytes, records_bytes-append}
+use Rattle.links.proofs.CsLaws.{request_judged-cs_bytes}
 use Rattle.context.specs.All.{all}
 use Rattle.context.specs.Sound.{zero_flow, zero_ip, zero_rtp, zero_list, zero_deltas, zero_link, filled_sound, unfilled_sound}
 use Rattle.context.specs.Sound.{sound_decompressor, sound_decompressor_by}
@@ -22,7 +22,7 @@ use Rattle.decompressor.specs.declared.answer.Outcome.TheVariants.{Accepted, Ref
 use Rattle.decompressor.specs.declared.table.Table.{Table}
 use Rattle.decompressor.specs.Answer.{said, accepted, refused, delivered}
 use Rattle.decompressor.specs.Table.{empty_by, is_empty, sound_of, Sound}
-use Rattle.decompressor.specs.PacketLaws.{said-no_room, said-accepted}
+use Rattle.decompressor.proofs.PacketLaws.{said-no_room, said-accepted}
 use Rattle.report.specs.Report.{broken_by, is_broken, state_of, states_of, states_from, report_on, report_bytes, report_of}
 
 ---- states_from

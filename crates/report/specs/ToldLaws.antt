@@ -11,11 +11,11 @@ use Rattle.context.specs.declared.decompressor.Status.TheVariants.{Empty, Live, 
 use Rattle.context.specs.declared.decompressor.DecompressorContext.{DecompressorContext}
 use Rattle.context.specs.Sound.{sound_decompressor}
 use Rattle.planes.specs.Planes.{Lent, cell, row, places, every}
-use Rattle.planes.specs.PlanesLaws.{places-at, length-places}
-use Rattle.planes.specs.EveryLaws.{every_made}
+use Rattle.planes.proofs.PlanesLaws.{places-at, length-places}
+use Rattle.planes.proofs.EveryLaws.{every_made}
 use Rattle.decompressor.specs.declared.table.Table.{Table}
 use Rattle.decompressor.specs.Table.{no_context, context_at, sound_of, Sound}
-use Rattle.decompressor.specs.TableLaws.{sound-context_at}
+use Rattle.decompressor.proofs.TableLaws.{sound-context_at}
 use Rattle.decompressor_table.specs.Layout.{status_of, context_of, context_in, plane_table, table_of, Fits}
 use Rattle.decompressor_table.specs.LayoutLaws.{table_of-fits, table_of-at}
 use Rattle.report.specs.Report.{broken_by, is_broken, state_of, states_of, states_from}

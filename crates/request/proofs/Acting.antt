@@ -12,7 +12,7 @@ use Rattle.context.specs.declared.compressor.CompressorContext.{CompressorContex
 use Rattle.compressor.specs.declared.table.Table.{Table}
 use Rattle.compressor.specs.Table.{no_context, context_at, with_context}
 use Rattle.compressor.specs.Request.{asked_all}
-use Rattle.compressor.specs.RequestLaws.{asked_all-more}
+use Rattle.compressor.proofs.RequestLaws.{asked_all-more}
 use Rattle.planes.specs.Planes.{Lent}
 use Rattle.compressor_table.specs.Layout.{context_in, table_of, Fits, Puts}
 use Rattle.compressor_table.specs.LayoutLaws.{table_of-at, table_of-repeats}

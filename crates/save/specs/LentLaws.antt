@@ -12,12 +12,12 @@ use Rattle.planes.specs.Planes.{Lent}
 use Rattle.decompressor.specs.declared.answer.Outcome.TheVariants.{Accepted, Refused}
 use Rattle.decompressor.specs.Answer.{said}
 use Rattle.decompressor.specs.Table.{no_context, context_at, sound_of}
-use Rattle.decompressor.specs.TableLaws.{sound_of-true, sound-most, sound-context_at}
+use Rattle.decompressor.proofs.TableLaws.{sound_of-true, sound-most, sound-context_at}
 use Rattle.decompressor_table.specs.Layout.{context_in, table_of}
 use Rattle.decompressor_table.specs.LayoutLaws.{Sizes, sound-fits, fits-sizes, table_of-at, length-table_of}
 use Rattle.decompressor_table.specs.LayoutLaws.{table_of-repeats, table_of-contexts}
 use Rattle.saves.specs.Saves.{front_bytes, record_bytes, records_bytes, save_of}
-use Rattle.saves.specs.SizeLaws.{records_bytes-more, records_bytes-few}
+use Rattle.saves.proofs.SizeLaws.{records_bytes-more, records_bytes-few}
 use Rattle.save.specs.SaveLaws.{save-no_room, save-accepted}
 
 module _ (l : Lent) (s : sound_of (table_of l) ≡ true) (i : ℕ) (h : i < 64) (c : DecompressorContext)

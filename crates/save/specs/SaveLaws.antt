@@ -18,11 +18,11 @@ use Rattle.context.specs.declared.decompressor.DecompressorContext.{Decompressor
 use Rattle.decompressor.specs.declared.answer.Outcome.TheVariants.{Accepted, Refused}
 use Rattle.decompressor.specs.declared.table.Table.{Table}
 use Rattle.decompressor.specs.Answer.{said, delivered}
-use Rattle.decompressor.specs.PacketLaws.{said-no_room, said-accepted}
+use Rattle.decompressor.proofs.PacketLaws.{said-no_room, said-accepted}
 use Rattle.decompressor.specs.Table.{sound_of}
 use Rattle.saves.specs.Saves.{kept, kept_bytes, header_part, used_bytes, record_by, record_bytes, records_bytes, body_bytes}
 use Rattle.saves.specs.Saves.{saved_bytes, save_of}
-use Rattle.saves.specs.SizeLaws.{length-kept_bytes, length-saved_bytes}
+use Rattle.saves.proofs.SizeLaws.{length-kept_bytes, length-saved_bytes}
 
 ---- header_part
 

@@ -1,11 +1,1 @@
 pub mod Saves
-pub mod Cases
-pub mod SizeLaws
-pub mod StepLaws
-pub mod KeptLaws
-pub mod FixedLaws
-pub mod RecordLaws
-pub mod SavesLaws
-pub mod ReadLaws
-pub mod LoadLaws
-pub mod FileLaws

@@ -19,14 +19,14 @@ use Rattle.compressor_table.specs.CallsLaws.{gives-accepted}
 use Rattle.compressor.specs.declared.table.Table.{Table}
 use Rattle.compressor.specs.declared.answer.Outcome.TheVariants.{Accepted}
 use Rattle.compressor.specs.Answer.{Result, refused, said}
-use Rattle.compressor.specs.AnswerLaws.{delivered-refused, delivered-written}
+use Rattle.compressor.proofs.AnswerLaws.{delivered-refused, delivered-written}
 use Rattle.compressor.specs.Table.{context_at, with_context}
 use Rattle.compressor.specs.Send.{step_on, link_bytes, sent_bytes, send_step}
 use Rattle.context.proofs.Arrays.{part-rest}
 use Rattle.outgoing.specs.Size.{link_size, Writable}
 use Rattle.outgoing.specs.SizeLaws.{length-link_bytes}
 use Rattle.compressor.specs.CanSend.{send_with}
-use Rattle.compressor.specs.SentLaws.{length-sent_bytes}
+use Rattle.compressor.proofs.SentLaws.{length-sent_bytes}
 
 -- a: the step; size, start: the bytes that go out before the rest of the packet, and the place where that begins
 module _ (t : Table) (i : ℕ) (p output : List ℕ) (h : Header) (a : Going) (w : Writable h a) (size start : ℕ)

@@ -17,7 +17,7 @@ use Rattle.compressor.specs.Lookup.{place_of}
 use Rattle.compressor.specs.Send.{send_at, send_plain, send_to, send_of}
 use Rattle.settings.specs.Settings.{length_allowed}
 use Rattle.settings.specs.SettingsLaws.{length_allowed-true}
-use Rattle.compressor.specs.SendLaws.{On, place_of-found}
+use Rattle.compressor.proofs.SendLaws.{On, place_of-found}
 use Rattle.compressor.specs.CanSend.{send_with}
 
 module _ (t : Table) (p output : List ℕ) where

@@ -4,7 +4,7 @@ use lib.ListN.{length}
 use Rattle.settings.specs.Settings.{length_allowed}
 use Rattle.settings.specs.SettingsLaws.{length_allowed-true}
 use Rattle.decompressor.specs.declared.old.OldForm.TheVariants as oldform
-use Rattle.decompressor.specs.TableLaws.{sound_of-true}
+use Rattle.decompressor.proofs.TableLaws.{sound_of-true}
 use Rattle.decompressor.specs.Receive.{receive_kind, receive_of}
 use Rattle.planes.specs.Planes.{lent}
 use Rattle.decompressor_table.specs.Layout.{table_of}

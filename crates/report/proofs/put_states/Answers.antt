@@ -4,7 +4,7 @@ use native.Mathlib.Omega.{arith}
 use borrow.Author.Tests.{leb-true}
 use Rattle.octets.specs.PutLaws.{wrote_then, wrote_nothing, wrote-length}
 use Rattle.planes.specs.Planes.{cell}
-use Rattle.planes.specs.EveryLaws.{every-at}
+use Rattle.planes.proofs.EveryLaws.{every-at}
 use Rattle.report.specs.ReportLaws.{states-all}
 use Rattle.report.specs.Told.{linked_at, told}
 use Rattle.report.specs.ToldLaws.{length-told, told_more, told-room}

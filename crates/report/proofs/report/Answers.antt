@@ -6,10 +6,10 @@ use borrow.Author.Tests.{not-true, not-false}
 use lib.ListN.{length}
 use Rattle.octets.specs.PutLaws.{wrote_then}
 use Rattle.links.specs.Cs.{State, cs_bytes}
-use Rattle.links.specs.CsLaws.{length-records_bytes}
+use Rattle.links.proofs.CsLaws.{length-records_bytes}
 use Rattle.planes.specs.Planes.{Lent, lent}
 use Rattle.decompressor.specs.Table.{sound_of}
-use Rattle.decompressor.specs.TableLaws.{sound_of-true}
+use Rattle.decompressor.proofs.TableLaws.{sound_of-true}
 use Rattle.decompressor_table.specs.Layout.{table_of}
 use Rattle.decompressor_table.specs.LayoutLaws.{sound-fits, fits-sizes}
 use Rattle.report.specs.Report.{states_from, report_of}

@@ -2,7 +2,7 @@ use Prim.Native.Nat.{◌-◌}
 use mathlib.Core.Path.{◌∙◌, sym}
 use native.Mathlib.Omega.{arith}
 use Rattle.planes.specs.Planes.{lent}
-use Rattle.compressor.specs.RequestLaws.{request_table-made}
+use Rattle.compressor.proofs.RequestLaws.{request_table-made}
 use Rattle.compressor_table.specs.Layout.{table_of}
 use Rattle.compressor_table.specs.LayoutLaws.{fits-sizes, table_of-repeats}
 use Rattle.request.proofs.Acting.{acted-start, acted-more}

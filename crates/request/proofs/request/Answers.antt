@@ -5,12 +5,12 @@ use mathlib.Core.List.{[]}
 use Prim.Native.Nat.{ℕ}
 use Rattle.packet.specs.Refusal.{verdict_number}
 use Rattle.links.specs.Cs.{request_judged}
-use Rattle.links.specs.CsLaws.{request_judged-good}
+use Rattle.links.proofs.CsLaws.{request_judged-good}
 use Rattle.compressor.specs.declared.table.Table.{Table}
-use Rattle.compressor.specs.CanSendLaws.{sound-repeats, sound-most}
-use Rattle.compressor.specs.TableLaws.{sound_of-true}
+use Rattle.compressor.proofs.CanSendLaws.{sound-repeats, sound-most}
+use Rattle.compressor.proofs.TableLaws.{sound_of-true}
 use Rattle.compressor.specs.Request.{request_of}
-use Rattle.compressor.specs.RequestLaws.{request_of-unsound, request_of-good, request_of-refused}
+use Rattle.compressor.proofs.RequestLaws.{request_of-unsound, request_of-good, request_of-refused}
 use Rattle.compressor.specs.Answer.{said}
 use Rattle.compressor.specs.declared.answer.Outcome.TheVariants.{Accepted}
 use Rattle.planes.specs.Planes.{lent}

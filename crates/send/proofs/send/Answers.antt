@@ -3,11 +3,11 @@ use native.Mathlib.Omega.{arith}
 use borrow.Author.Tests.{not-true, not-false}
 use lib.ListN.{length}
 use Rattle.codes.specs.BytesLaws.{AllBytes-elements}
-use Rattle.headers.specs.CompressibleLaws.{compressible-true}
+use Rattle.headers.proofs.CompressibleLaws.{compressible-true}
 use Rattle.settings.specs.Settings.{length_allowed}
 use Rattle.packet.specs.declared.header.Header.{Header}
-use Rattle.compressor.specs.CanSendLaws.{sound-most, CanSend-on}
-use Rattle.compressor.specs.TableLaws.{sound_of-true}
+use Rattle.compressor.proofs.CanSendLaws.{sound-most, CanSend-on}
+use Rattle.compressor.proofs.TableLaws.{sound_of-true}
 use Rattle.compressor.specs.Lookup.{place_in}
 use Rattle.compressor.specs.Send.{send_of}
 use Rattle.compressor.specs.CanSend.{send_with}

@@ -1,7 +1,7 @@
 use native.Mathlib.Omega.{arith}
 use lib.ListN.{length}
 use Rattle.compressor_steady.specs.Steady.{steadied}
-use Rattle.compressor.specs.SentLaws.{length_rest}
+use Rattle.compressor.proofs.SentLaws.{length_rest}
 use Rattle.compressor.specs.CanSend.{send_with}
 use Rattle.planes.specs.Planes.{lent}
 use Rattle.compressor_table.specs.Layout.{table_of}

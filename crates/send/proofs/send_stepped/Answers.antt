@@ -1,6 +1,6 @@
 use native.Mathlib.Omega.{arith}
 use Rattle.context.specs.Compressor.{stepped}
-use Rattle.compressor.specs.SentLaws.{length_rest}
+use Rattle.compressor.proofs.SentLaws.{length_rest}
 use Rattle.compressor.specs.CanSend.{send_with}
 use Rattle.planes.specs.Planes.{lent}
 use Rattle.compressor_table.specs.Layout.{table_of}

@@ -1,4 +1,4 @@
-use Rattle.codes.specs.ReadingLaws.{value_in-far, value_in-unused, value_in-high}
+use Rattle.codes.proofs.ReadingLaws.{value_in-far, value_in-unused, value_in-high}
 use Rattle.std.proofs.Common.{◌≡◌, ◌+◌, ◌-◌, arith}
 use Rattle.codes.proofs.cursor.value_of_three.Goals as goal
 

@@ -1,4 +1,4 @@
-use Rattle.codes.specs.ReadingLaws.{value_in-near, value_in-middle}
+use Rattle.codes.proofs.ReadingLaws.{value_in-near, value_in-middle}
 use Rattle.std.proofs.Common.{◌≡◌, ◌+◌, ◌-◌, arith}
 use Rattle.codes.proofs.cursor.value_of_two.Goals as goal
 

@@ -5,7 +5,7 @@ use native.Mathlib.Nat.{sub-zero}
 use native.Mathlib.Omega.{arith}
 use borrow.Author.Tests.{eq-eqb, ne_eqb}
 use Rattle.planes.specs.Planes.{lent}
-use Rattle.compressor.specs.LookupLaws.{lowest-end}
+use Rattle.compressor.proofs.LookupLaws.{lowest-end}
 use Rattle.compressor.specs.Table.{is_empty}
 use Rattle.compressor_table.specs.Layout.{table_of}
 use Rattle.compressor_table.specs.LayoutLaws.{fits-sizes}

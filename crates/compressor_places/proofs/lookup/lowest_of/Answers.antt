@@ -5,7 +5,7 @@ use native.Mathlib.Nat.{sub-zero}
 use native.Mathlib.Omega.{arith}
 use Rattle.planes.specs.Planes.{lent}
 use Rattle.compressor.specs.Lookup.{is_of}
-use Rattle.compressor.specs.LookupLaws.{lowest-end}
+use Rattle.compressor.proofs.LookupLaws.{lowest-end}
 use Rattle.compressor_table.specs.Layout.{table_of}
 use Rattle.compressor_table.specs.LayoutLaws.{fits-sizes}
 use Rattle.compressor_places.proofs.Found.{lowest-at}

@@ -1,6 +1,6 @@
 use Prim.Native.Nat.{◌-◌}
 use native.Mathlib.Omega.{arith}
-use Rattle.planes.specs.EveryLaws.{every_more, every-done}
+use Rattle.planes.proofs.EveryLaws.{every_more, every-done}
 use Rattle.compressor_walk.specs.Walk.{used_at}
 use Rattle.compressor_walk.proofs.sound.all_used.Goals as goal
 

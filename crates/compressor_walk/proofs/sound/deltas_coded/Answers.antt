@@ -1,6 +1,6 @@
 use Prim.Native.Nat.{◌-◌}
 use native.Mathlib.Omega.{arith}
-use Rattle.planes.specs.EveryLaws.{every_more, every-done}
+use Rattle.planes.proofs.EveryLaws.{every_more, every-done}
 use Rattle.compressor_walk.specs.Walk.{coded_at}
 use Rattle.codes.proofs.code.has_code32.Reads as has-code32-reads
 use Rattle.compressor_walk.proofs.sound.deltas_coded.Goals as goal

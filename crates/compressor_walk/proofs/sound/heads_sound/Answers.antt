@@ -1,7 +1,7 @@
 use Prim.Native.Nat.{ℕ, ◌-◌}
 use native.Mathlib.Omega.{arith}
 use Rattle.planes.specs.Planes.{row}
-use Rattle.planes.specs.EveryLaws.{every_more, every-done}
+use Rattle.planes.proofs.EveryLaws.{every_more, every-done}
 use Rattle.compressor_walk.specs.Walk.{head_test}
 use Rattle.compressor_walk.proofs.sound.heads_sound.Goals as goal
 

@@ -1,6 +1,6 @@
 use Prim.Native.Nat.{◌-◌}
 use native.Mathlib.Omega.{arith}
-use Rattle.planes.specs.EveryLaws.{every_more, every-done}
+use Rattle.planes.proofs.EveryLaws.{every_more, every-done}
 use Rattle.compressor_walk.specs.Walk.{past_at}
 use Prim.Native.Nat.{◌-◌}
 use Rattle.compressor_walk.proofs.sound.plane_past.Goals as goal

@@ -2,7 +2,7 @@ use Prim.Native.Nat.{◌-◌}
 use mathlib.Core.Path.{sym, ◌∙◌}
 use native.Mathlib.Omega.{arith}
 use lib.ListN.{length-set}
-use Rattle.planes.specs.PlanesLaws.{replaced-step, replaced-end}
+use Rattle.planes.proofs.PlanesLaws.{replaced-step, replaced-end}
 use Rattle.decompressor_table.proofs.write.put_words.Goals as goal
 
 pub loop-p-preserved : goal.loop-p-preserved

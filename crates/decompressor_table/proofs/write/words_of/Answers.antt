@@ -2,7 +2,7 @@ use Prim.Native.Nat.{ℕ}
 use mathlib.Core.Path.{◌≡◌, ap, sym}
 use mathlib.Core.List.{List, ◌∷◌}
 use lib.ListN.{length}
-use Rattle.planes.specs.PlanesLaws.{drop-places}
+use Rattle.planes.proofs.PlanesLaws.{drop-places}
 use borrow.Author.Rules.{rules}
 use Rattle.decompressor_table.proofs.write.words_of.Goals as goal
 

@@ -1,6 +1,6 @@
 use Prim.Native.Nat.{◌-◌}
 use native.Mathlib.Omega.{arith}
-use Rattle.planes.specs.EveryLaws.{every_more, every-done}
+use Rattle.planes.proofs.EveryLaws.{every_more, every-done}
 use Rattle.decompressor_walk.specs.Walk.{filled_at}
 use Rattle.decompressor_walk.proofs.sound.all_filled.Goals as goal
 

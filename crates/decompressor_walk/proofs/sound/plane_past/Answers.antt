@@ -1,6 +1,6 @@
 use Prim.Native.Nat.{◌-◌}
 use native.Mathlib.Omega.{arith}
-use Rattle.planes.specs.EveryLaws.{every_more, every-done}
+use Rattle.planes.proofs.EveryLaws.{every_more, every-done}
 use Rattle.decompressor_walk.specs.Walk.{past_at}
 use Rattle.decompressor_walk.proofs.sound.plane_past.Goals as goal
 

@@ -4,8 +4,8 @@ use mathlib.Core.Bool.{◌&&◌, ◌||◌}
 use native.Mathlib.Omega.{arith}
 use lib.Dec.{eqb, ltb}
 use Rattle.planes.specs.Planes.{cell}
-use Rattle.planes.specs.PlanesLaws.{numbers-at}
-use Rattle.planes.specs.EveryLaws.{every_more, every-done}
+use Rattle.planes.proofs.PlanesLaws.{numbers-at}
+use Rattle.planes.proofs.EveryLaws.{every_more, every-done}
 use Rattle.decompressor_walk.specs.Walk.{unused_at}
 use Rattle.decompressor_walk.proofs.sound.unused_from.Goals as goal
 

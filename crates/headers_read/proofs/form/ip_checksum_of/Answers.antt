@@ -1,7 +1,7 @@
 use native.Mathlib.Omega.{arith}
 use Rattle.codes.specs.BytesLaws.{AllBytes-elements}
 use Rattle.octets.specs.PutLaws.{wrote_then, wrote-whole}
-use Rattle.headers.specs.ChecksumLaws.{length-beside, ip_checksum_of-beside}
+use Rattle.headers.proofs.ChecksumLaws.{length-beside, ip_checksum_of-beside}
 use Rattle.headers_read.proofs.form.ip_checksum_of.Goals as goal
 
 pub returns : goal.returns

@@ -1,7 +1,7 @@
 use native.Mathlib.Omega.{arith}
 use Rattle.octets.specs.PutLaws.{wrote_then, wrote-whole}
 use Rattle.packet.specs.Ranges.{IpInRange, FlowInRange}
-use Rattle.headers.specs.ChecksumLaws.{ip_checksum-written}
+use Rattle.headers.proofs.ChecksumLaws.{ip_checksum-written}
 use Rattle.headers_write.proofs.checksum.ip_checksum.Goals as goal
 
 -- what the types of a header's fields say of them: owning the parameter tells it, field by field in the declared order

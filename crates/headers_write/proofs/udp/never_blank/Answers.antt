@@ -1,5 +1,5 @@
 use native.Mathlib.Omega.{arith}
-use Rattle.headers.specs.UdpChecksumLaws.{never_blank-same}
+use Rattle.headers.proofs.UdpChecksumLaws.{never_blank-same}
 use Rattle.headers_write.proofs.udp.never_blank.Goals as goal
 
 pub returns-else-x-eq0 : goal.returns-else-x-eq0

@@ -1,6 +1,6 @@
 use Rattle.load.specs.LoadLaws.{part-size}
-use Rattle.saves.specs.KeptLaws.{kept_form-true}
-use Rattle.codes.specs.ReadingLaws.{has_there}
+use Rattle.saves.proofs.KeptLaws.{kept_form-true}
+use Rattle.codes.proofs.ReadingLaws.{has_there}
 use borrow.Author.Tests.{not-true, not-false}
 use mathlib.Core.Path.{sym, ◌∙◌}
 use native.Mathlib.Omega.{arith}

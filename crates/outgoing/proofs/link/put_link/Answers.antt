@@ -1,4 +1,4 @@
-use Rattle.headers.specs.HeaderLaws.{range-narrow}
+use Rattle.headers.proofs.HeaderLaws.{range-narrow}
 use native.Mathlib.Omega.{arith}
 use Rattle.outgoing.specs.Outgoing.{link_bytes}
 use Rattle.outgoing.specs.Size.{link_size}

@@ -2,7 +2,7 @@ use Prim.Native.Nat.{◌-◌}
 use mathlib.Core.Path.{refl}
 use native.Mathlib.Omega.{arith}
 use lib.ListN.{length, length-set}
-use Rattle.planes.specs.PlanesLaws.{clear-more, clear-done}
+use Rattle.planes.proofs.PlanesLaws.{clear-more, clear-done}
 use Rattle.planes.proofs.clear.clear_words.Goals as goal
 
 pub loop-i-init : goal.loop-i-init

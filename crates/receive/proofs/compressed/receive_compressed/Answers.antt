@@ -7,10 +7,10 @@ use Rattle.planes.specs.Planes.{lent}
 use Rattle.decompressor_table.specs.Layout.{table_of}
 use Rattle.fields.specs.declared.place.Got8.{Got8}
 use Rattle.links.specs.Head.{context_field, context_of}
-use Rattle.links.specs.HeadLaws.{head_at-context, head_of-within}
+use Rattle.links.proofs.HeadLaws.{head_at-context, head_of-within}
 use Rattle.decompressor.specs.Receive.{receive_compressed}
-use Rattle.decompressor.specs.ReceiveLaws.{compressed-unknown, compressed-cut, compressed-on}
-use Rattle.decompressor.specs.TableLaws.{sound-most}
+use Rattle.decompressor.proofs.ReceiveLaws.{compressed-unknown, compressed-cut, compressed-on}
+use Rattle.decompressor.proofs.TableLaws.{sound-most}
 use Rattle.decompressor_table.specs.LayoutLaws.{fits-sizes, table_of-contexts}
 use Rattle.decompressor_table.specs.CallsLaws.{gives-kept, gives-by}
 use Rattle.receive.specs.Taken.{Found, found_on}

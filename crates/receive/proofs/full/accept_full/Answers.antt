@@ -4,13 +4,13 @@ use Rattle.planes.specs.Planes.{lent}
 use Rattle.decompressor_table.specs.Layout.{table_of}
 use Rattle.codes.specs.BytesLaws.{AllBytes-elements}
 use Rattle.octets.specs.PutLaws.{wrote-front}
-use Rattle.headers.specs.HeaderLaws.{range-narrow}
+use Rattle.headers.proofs.HeaderLaws.{range-narrow}
 use Rattle.links.specs.Fh.{fh_of}
-use Rattle.links.specs.FhLaws.{fh_judged-good, fh_of-within, fh_of-context, fh_of-range}
+use Rattle.links.proofs.FhLaws.{fh_judged-good, fh_of-within, fh_of-context, fh_of-range}
 use Rattle.context.proofs.Arrays.{part-rest}
-use Rattle.decompressor.specs.PacketLaws.{full_size, length-full, said-no_room, said-accepted}
+use Rattle.decompressor.proofs.PacketLaws.{full_size, length-full, said-no_room, said-accepted}
 use Rattle.decompressor.specs.Receive.{packet_of, full_table}
-use Rattle.decompressor.specs.TableLaws.{sound-most}
+use Rattle.decompressor.proofs.TableLaws.{sound-most}
 use Rattle.decompressor_table.specs.CallsLaws.{gives-kept}
 use Rattle.receive.specs.Taken.{accept_full}
 use Rattle.receive.proofs.Placing.{gives-full}

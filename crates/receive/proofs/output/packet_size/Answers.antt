@@ -1,5 +1,5 @@
 use Prim.Native.Nat.{◌≤◌}
-use Rattle.decompressor.specs.PacketLaws.{length-packet_of}
+use Rattle.decompressor.proofs.PacketLaws.{length-packet_of}
 use mathlib.Core.Path.{◌≡◌}
 use lib.ListN.{length}
 use native.Mathlib.Omega.{arith}

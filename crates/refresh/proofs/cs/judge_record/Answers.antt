@@ -1,6 +1,6 @@
 use mathlib.Core.Bool.{true, false}
 use mathlib.Core.Path.{sym}
-use Rattle.links.specs.CsLaws.{record_with-context, record_with-bits}
+use Rattle.links.proofs.CsLaws.{record_with-context, record_with-bits}
 use Rattle.links.specs.Cs.{record_judged}
 use Rattle.refresh.proofs.cs.judge_record.Goals as goal
 

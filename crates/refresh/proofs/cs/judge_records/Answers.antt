@@ -1,6 +1,6 @@
 use native.Mathlib.Nat.{sub-zero}
 use Rattle.packet.specs.RefusalLaws.{number_of-refused}
-use Rattle.links.specs.CsLaws.{records_judged-more, records_judged-none}
+use Rattle.links.proofs.CsLaws.{records_judged-more, records_judged-none}
 use native.Mathlib.Omega.{arith}
 use mathlib.Core.Path.{◌∙◌}
 use Prim.Native.Nat.{◌-◌}

@@ -1,5 +1,5 @@
 use Rattle.save.specs.SaveLaws.{record_bytes-empty, record_bytes-live, record_bytes-broken}
-use Rattle.saves.specs.SizeLaws.{kept-narrow}
+use Rattle.saves.proofs.SizeLaws.{kept-narrow}
 use lib.ListN.{length}
 use mathlib.Core.Path.{ap}
 use Prim.Native.Nat.{ℕ}

@@ -1,4 +1,4 @@
-use Rattle.codes.specs.ReadingLaws.{field_at-there, field_at-cut}
+use Rattle.codes.proofs.ReadingLaws.{field_at-there, field_at-cut}
 use Rattle.codes.specs.Reading.{read_byte, byte_at}
 use Rattle.std.proofs.Common.{arith}
 use Rattle.codes.proofs.cursor.Cursor.byte.Goals as goal

@@ -1,4 +1,4 @@
-use Rattle.codes.specs.ReadingLaws.{has_there, has-cut, field_at-there, field_at-cut}
+use Rattle.codes.proofs.ReadingLaws.{has_there, has-cut, field_at-there, field_at-cut}
 use Rattle.codes.specs.Reading.{read_long, long_at}
 use Rattle.std.proofs.Common.{arith}
 use Rattle.codes.proofs.cursor.Cursor.long.Goals as goal

@@ -8,15 +8,15 @@ use Rattle.packet.specs.declared.header.Header.{Header}
 use Rattle.packet.specs.declared.parts.Parts.{Parts}
 use Rattle.headers.specs.Header.{header_of, header_size}
 use Rattle.links.specs.Head.{head_of}
-use Rattle.links.specs.HeadLaws.{head_of-written}
+use Rattle.links.proofs.HeadLaws.{head_of-written}
 use Rattle.links.specs.Cu.{cu_flags_of, cu_flags, cu_bytes}
 use Rattle.context.specs.Compressor.{compressed_udp, checksum_sent, Going}
 use Rattle.compressor.specs.declared.table.Table.{Table}
 use Rattle.compressor.specs.Answer.{Result}
 use Rattle.compressor.specs.Send.{link_by, link_bytes, send_of}
-use Rattle.compressor.specs.SendLaws.{On, step_at, kind_at, bytes_at, sent_on}
-use Rattle.compressor.specs.SendLaws.{Goes, goes-refused, goes-plain, goes_on, send_of-goes}
-use Rattle.compressor.specs.CanSendLaws.{CanSend-on}
+use Rattle.compressor.proofs.SendLaws.{On, step_at, kind_at, bytes_at, sent_on}
+use Rattle.compressor.proofs.SendLaws.{Goes, goes-refused, goes-plain, goes_on, send_of-goes}
+use Rattle.compressor.proofs.CanSendLaws.{CanSend-on}
 
 -- F, as a decompressor reads it
 abbrev pub values_read : List ℕ → Bool

@@ -8,7 +8,7 @@ use borrow.Author.Tests.{eq-eqb, ne_eqb, le-leb, not-true}
 use Rattle.codes.specs.Numbers.{forbidden}
 use Rattle.packet.specs.Ranges.{HeaderInRange}
 use Rattle.headers.specs.Header.{header_size, size_with}
-use Rattle.headers.specs.HeaderLaws.{length-header_bytes}
+use Rattle.headers.proofs.HeaderLaws.{length-header_bytes}
 use Rattle.fields.specs.Place.{good}
 use Rattle.fields.specs.NextLaws.{left-past}
 use Rattle.context.specs.Decompressor.{rebuilt}
@@ -22,9 +22,9 @@ use Rattle.context.proofs.Unfilled.{blank, unfilled-blank}
 use Rattle.saves.specs.declared.read.Fixed.{Fixed}
 use Rattle.saves.specs.Saves.{checked, kept, kept_bytes, header_from, status_of, header_part, used_bytes, record_by, record_bytes}
 use Rattle.saves.specs.Saves.{size_allowed, context_of, record_from, record_of}
-use Rattle.saves.specs.StepLaws.{checked-passed}
-use Rattle.saves.specs.KeptLaws.{marked, header_from-bytes}
-use Rattle.saves.specs.FixedLaws.{fixed, FixedFits, fixed_bytes, fixed_of-used, fixed_of-empty}
+use Rattle.saves.proofs.StepLaws.{checked-passed}
+use Rattle.saves.proofs.KeptLaws.{marked, header_from-bytes}
+use Rattle.saves.proofs.FixedLaws.{fixed, FixedFits, fixed_bytes, fixed_of-used, fixed_of-empty}
 
 ---- The header of a context that was filled
 

@@ -20,12 +20,12 @@ use Rattle.fields.specs.NextLaws.{left-past, next_version-written, next_byte-wri
 use Rattle.fields.specs.NextLaws.{next_word-written, next_long-written, next_list-written}
 use Rattle.links.specs.declared.whole.Fixed.{Fixed}
 use Rattle.links.specs.Sent.{none8, none16, none32}
-use Rattle.links.specs.SentLaws.{append-four, unsent8, unsent16, unsent32}
+use Rattle.links.proofs.SentLaws.{append-four, unsent8, unsent16, unsent32}
 use Rattle.links.specs.Head.{head_bytes, head_of}
-use Rattle.links.specs.FitsLaws.{WholeFits}
-use Rattle.links.specs.HeadLaws.{head_of-written}
+use Rattle.links.proofs.FitsLaws.{WholeFits}
+use Rattle.links.proofs.HeadLaws.{head_of-written}
 use Rattle.links.specs.Cu.{changes_bytes}
-use Rattle.links.specs.CuLaws.{changes, changes_of-changes_bytes}
+use Rattle.links.proofs.CuLaws.{changes, changes_of-changes_bytes}
 use Rattle.links.specs.Whole.{rtp_bytes, whole_flags, whole_bytes, fixed_of, rtp_header, rtp_rest, rtp_of, whole_parts, whole_of}
 
 ---- the RTP header

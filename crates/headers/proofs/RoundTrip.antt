@@ -7,9 +7,9 @@ use Rattle.codes.specs.Reading.{word_at}
 use Rattle.headers.specs.Header.{header_of, header_bytes, header_size}
 use Rattle.headers.specs.Checksum.{ip_checksum, printed}
 use Rattle.headers.specs.Compressible.{compressible}
-use Rattle.headers.specs.CompressibleLaws.{compressible-true, compressible-size}
-use Rattle.headers.specs.ChecksumLaws.{ip_checksum-header_of}
-use Rattle.headers.specs.HeaderLaws.{header_bytes-header_of}
+use Rattle.headers.proofs.CompressibleLaws.{compressible-true, compressible-size}
+use Rattle.headers.proofs.ChecksumLaws.{ip_checksum-header_of}
+use Rattle.headers.proofs.HeaderLaws.{header_bytes-header_of}
 
 module _ {p : List ℕ} (a : AllBytes p) (e : compressible p ≡ true) where
   -- lengths and checksum are those that are worked out

@@ -24,8 +24,8 @@ use Rattle.headers.specs.Header.{count_at, rtp_at, flow_of, ip_of, header_of, ip
 use Rattle.headers.specs.Header.{ip_back, udp_bytes, rtp_fixed, header_bytes, header_size, longs}
 use Rattle.headers.specs.Compressible.{fixed_form}
 use Rattle.headers.specs.ListLaws.{list_at-range, longs-list_bytes, list_bytes-list_at, length-list_bytes}
-use Rattle.headers.specs.ChecksumLaws.{flags-word}
-use Rattle.headers.specs.CompressibleLaws.{FixedForm, fixed_form-true, fixed_form-holds}
+use Rattle.headers.proofs.ChecksumLaws.{flags-word}
+use Rattle.headers.proofs.CompressibleLaws.{FixedForm, fixed_form-true, fixed_form-holds}
 
 ---- header_bytes, written and read
 

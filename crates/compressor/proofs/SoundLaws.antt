@@ -6,8 +6,8 @@ use Rattle.std.proofs.Common.{subst, sym, arith, length-set, get_or-set_same, ge
 use borrow.Author.Tests.{eq-eqb}
 use Rattle.codes.specs.Bytes.{AllBytes}
 use Rattle.headers.specs.Header.{header_of, flow_of}
-use Rattle.headers.specs.HeaderLaws.{header_of-range}
-use Rattle.headers.specs.CompressibleLaws.{compressible-true}
+use Rattle.headers.proofs.HeaderLaws.{header_of-range}
+use Rattle.headers.proofs.CompressibleLaws.{compressible-true}
 use Rattle.context.proofs.Arrays.{set_keeps}
 use Rattle.context.proofs.Relation.{Held}
 use Rattle.context.specs.Sound.{sound_compressor}
@@ -16,10 +16,10 @@ use Rattle.compressor.specs.declared.table.Table.{Table}
 use Rattle.compressor.specs.Answer.{Result}
 use Rattle.compressor.specs.Table.{no_context, context_at}
 use Rattle.compressor.specs.Table.{Sound}
-use Rattle.compressor.specs.TableLaws.{sound_of-true, sound-with_context}
+use Rattle.compressor.proofs.TableLaws.{sound_of-true, sound-with_context}
 use Rattle.compressor.specs.Send.{send_of}
-use Rattle.compressor.specs.SendLaws.{On, step_at, table_at, Goes, goes-refused, goes-plain, goes_on, send_of-goes}
-use Rattle.compressor.specs.CanSendLaws.{sound-most, sound-context_at}
+use Rattle.compressor.proofs.SendLaws.{On, step_at, table_at, Goes, goes-refused, goes-plain, goes_on, send_of-goes}
+use Rattle.compressor.proofs.CanSendLaws.{sound-most, sound-context_at}
 
 ---- A packet on context i
 

@@ -22,7 +22,7 @@ use Rattle.context.specs.declared.decompressor.Status.TheVariants.{Empty, Live, 
 use Rattle.context.specs.declared.decompressor.DecompressorContext.{DecompressorContext}
 use Rattle.decompressor.specs.declared.table.Table.{Table}
 use Rattle.decompressor.specs.Table.{Sound}
-use Rattle.decompressor.specs.TableLaws.{sound-most}
+use Rattle.decompressor.proofs.TableLaws.{sound-most}
 use Rattle.saves.specs.Saves.{kept, kept_bytes, used_bytes, record_by, record_bytes, records_bytes, saved_bytes}
 
 ---- kept

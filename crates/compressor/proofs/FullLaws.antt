@@ -7,16 +7,16 @@ use Rattle.codes.specs.Bytes.{AllBytes}
 use Rattle.packet.specs.declared.header.Header.{Header}
 use Rattle.headers.specs.Header.{header_of, header_size}
 use Rattle.links.specs.Fh.{fh_bytes}
-use Rattle.links.specs.FhPacketLaws.{with_lengths, length-with_lengths, fh_bytes-packet}
+use Rattle.links.proofs.FhPacketLaws.{with_lengths, length-with_lengths, fh_bytes-packet}
 use Rattle.context.specs.Compressor.{full_header, Going}
 use Rattle.outgoing.specs.Size.{Writable}
 use Rattle.compressor.specs.declared.table.Table.{Table}
 use Rattle.compressor.specs.Answer.{Result}
-use Rattle.compressor.specs.TableLaws.{sound_of-true}
+use Rattle.compressor.proofs.TableLaws.{sound_of-true}
 use Rattle.compressor.specs.Send.{link_by, link_bytes, send_of}
-use Rattle.compressor.specs.SendLaws.{On, step_at, kind_at, bytes_at, sent_on}
-use Rattle.compressor.specs.SendLaws.{Goes, goes-refused, goes-plain, goes_on, send_of-goes}
-use Rattle.compressor.specs.CanSendLaws.{sound-most, CanSend-on}
+use Rattle.compressor.proofs.SendLaws.{On, step_at, kind_at, bytes_at, sent_on}
+use Rattle.compressor.proofs.SendLaws.{Goes, goes-refused, goes-plain, goes_on, send_of-goes}
+use Rattle.compressor.proofs.CanSendLaws.{sound-most, CanSend-on}
 
 -- what a call gave out is the packet p, but that its length fields say a context of k, a generation and a link sequence
 pub record GaveFull (k : ℕ) (p : List ℕ) (r : Result) : Type 0 where

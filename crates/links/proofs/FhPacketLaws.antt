@@ -10,7 +10,7 @@ use Rattle.packet.specs.declared.header.Header.{Header}
 use Rattle.headers.specs.Header.{header_of, ip_front, ip_back, udp_bytes, header_bytes, header_size}
 use Rattle.headers.specs.Checksum.{ip_checksum, printed}
 use Rattle.headers.specs.Compressible.{compressible}
-use Rattle.headers.specs.RoundTrip.{printed-header_of}
+use Rattle.headers.proofs.RoundTrip.{printed-header_of}
 use Rattle.links.specs.Fh.{ip_field, fh_bytes}
 
 ---- a packet with other bytes in its length fields

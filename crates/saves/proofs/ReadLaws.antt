@@ -31,11 +31,11 @@ use Rattle.saves.specs.declared.read.GotContext.{GotContext}
 use Rattle.saves.specs.Saves.{allowed, kept, kept_bytes, no_header, header_field, header_from, header_part}
 use Rattle.saves.specs.Saves.{used_bytes, record_by, record_bytes, fixed_of, unfilled_allowed, header_allowed, size_allowed}
 use Rattle.saves.specs.Saves.{context_of, record_from, record_of}
-use Rattle.saves.specs.StepLaws.{Goes, checked-passed, allowed-goes}
-use Rattle.saves.specs.KeptLaws.{marked, HeaderRead, header_from-read}
-use Rattle.saves.specs.FixedLaws.{fixed, FixedFits, fixed_bytes, standing, FixedRead, empty, used, fixed_of-read}
-use Rattle.saves.specs.FixedLaws.{fixed_of-goes, fixed_bytes-standing}
-use Rattle.saves.specs.RecordLaws.{from_empty, from-broken}
+use Rattle.saves.proofs.StepLaws.{Goes, checked-passed, allowed-goes}
+use Rattle.saves.proofs.KeptLaws.{marked, HeaderRead, header_from-read}
+use Rattle.saves.proofs.FixedLaws.{fixed, FixedFits, fixed_bytes, standing, FixedRead, empty, used, fixed_of-read}
+use Rattle.saves.proofs.FixedLaws.{fixed_of-goes, fixed_bytes-standing}
+use Rattle.saves.proofs.RecordLaws.{from_empty, from-broken}
 
 ---- The context of fields and header that were read
 

@@ -14,12 +14,12 @@ use Rattle.packet.specs.declared.header.Header.{Header}
 use Rattle.headers.specs.Header.{count_at, header_of, ip_front, ip_back, udp_bytes, header_bytes, size_with, header_size}
 use Rattle.headers.specs.Checksum.{ip_checksum_of, ip_checksum}
 use Rattle.headers.specs.Compressible.{fixed_form}
-use Rattle.headers.specs.CompressibleLaws.{header_size-header_of}
-use Rattle.headers.specs.HeaderLaws.{count_at-header_bytes, header_of-header_bytes, header_of-range, udp_length-header_bytes}
-use Rattle.headers.specs.HeaderLaws.{ip_checksum-header_bytes, fixed_form-header_bytes, length-header_bytes, AllBytes-header_bytes}
-use Rattle.headers.specs.HeaderLaws.{length-header_bytes, AllBytes-header_bytes}
-use Rattle.headers.specs.HeaderLaws.{udp_length-header_bytes, ip_checksum-header_bytes, fixed_form-header_bytes}
-use Rattle.headers.specs.ChecksumLaws.{ip_checksum_of-header_bytes, ip_checksum-lt}
+use Rattle.headers.proofs.CompressibleLaws.{header_size-header_of}
+use Rattle.headers.proofs.HeaderLaws.{count_at-header_bytes, header_of-header_bytes, header_of-range, udp_length-header_bytes}
+use Rattle.headers.proofs.HeaderLaws.{ip_checksum-header_bytes, fixed_form-header_bytes, length-header_bytes, AllBytes-header_bytes}
+use Rattle.headers.proofs.HeaderLaws.{length-header_bytes, AllBytes-header_bytes}
+use Rattle.headers.proofs.HeaderLaws.{udp_length-header_bytes, ip_checksum-header_bytes, fixed_form-header_bytes}
+use Rattle.headers.proofs.ChecksumLaws.{ip_checksum_of-header_bytes, ip_checksum-lt}
 use Rattle.links.specs.Fh.{ip_field, fh_bytes, fields_form, checksum_right, fh_judged, fh_of}
 
 ---- what is told by a full header that is judged good

@@ -12,7 +12,7 @@ use Rattle.context.proofs.PartsLaws.{LinkType, full-header, compressed-udp, comp
 use Rattle.compressor.specs.declared.table.Table.{Table}
 use Rattle.compressor.specs.Answer.{Result}
 use Rattle.compressor.specs.Send.{step_by, step_on, send_of}
-use Rattle.compressor.specs.SendLaws.{kind_at, Goes, goes-refused, goes-plain, goes_on, send_of-goes}
+use Rattle.compressor.proofs.SendLaws.{kind_at, Goes, goes-refused, goes-plain, goes_on, send_of-goes}
 
 LinkType-most : {k : ℕ} → LinkType k → k ≤ compressed_rtp
 LinkType-most full-header = omega arith

@@ -10,7 +10,7 @@ use Rattle.codes.specs.Reading.{byte_at, word_at}
 use Rattle.headers.specs.Header.{count_at, size_with}
 use Rattle.headers.specs.Checksum.{ip_checksum_of}
 use Rattle.headers.specs.Compressible.{fixed_form}
-use Rattle.headers.specs.CompressibleLaws.{FixedForm, fixed_form-true}
+use Rattle.headers.proofs.CompressibleLaws.{FixedForm, fixed_form-true}
 use Rattle.links.specs.Fh.{fields_form, checksum_right, fh_judged}
 
 ---- what is stated

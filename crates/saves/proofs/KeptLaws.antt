@@ -10,7 +10,7 @@ use Rattle.std.proofs.Math.Seq.{take-append_seam}
 use Rattle.codes.specs.Bytes.{AllBytes}
 use Rattle.codes.specs.Numbers.{cut, forbidden}
 use Rattle.codes.specs.Reading.{has, word_at}
-use Rattle.codes.specs.RoundTrip.{left-length}
+use Rattle.codes.proofs.RoundTrip.{left-length}
 use Rattle.codes.proofs.BytesRead.{AllBytes-take, AllBytes-drop}
 use Rattle.packet.proofs.Chain.{all-of-eight}
 use Rattle.packet.specs.Refusal.{is_accepted}
@@ -18,9 +18,9 @@ use Rattle.packet.specs.Ranges.{HeaderInRange}
 use Rattle.packet.specs.declared.header.Header.{Header}
 use Rattle.headers.specs.Header.{count_at, rtp_at, header_of, header_bytes, size_with, header_size}
 use Rattle.headers.specs.Compressible.{fixed_form}
-use Rattle.headers.specs.HeaderLaws.{count_at-header_bytes, header_of-header_bytes, ip_length-header_bytes, udp_length-header_bytes}
-use Rattle.headers.specs.HeaderLaws.{ip_checksum-header_bytes, fixed_form-header_bytes, length-header_bytes, header_of-range}
-use Rattle.headers.specs.HeaderLaws.{header_bytes-header_of}
+use Rattle.headers.proofs.HeaderLaws.{count_at-header_bytes, header_of-header_bytes, ip_length-header_bytes, udp_length-header_bytes}
+use Rattle.headers.proofs.HeaderLaws.{ip_checksum-header_bytes, fixed_form-header_bytes, length-header_bytes, header_of-range}
+use Rattle.headers.proofs.HeaderLaws.{header_bytes-header_of}
 use Rattle.fields.specs.Place.{good, stopped}
 use Rattle.saves.specs.declared.read.GotHeader.{GotHeader}
 use Rattle.saves.specs.Saves.{kept_bytes, kept_form, no_header, formed_header, header_from}

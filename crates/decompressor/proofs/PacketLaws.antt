@@ -9,11 +9,11 @@ use Rattle.packet.specs.declared.header.Header.{Header}
 use Rattle.headers.specs.Header.{header_of, header_bytes, header_size, ip_front, ip_back, udp_bytes, rtp_fixed}
 use Rattle.headers.specs.Checksum.{printed, ip_checksum}
 use Rattle.headers.specs.Compressible.{compressible}
-use Rattle.headers.specs.CompressibleLaws.{compressible-size}
+use Rattle.headers.proofs.CompressibleLaws.{compressible-size}
 use Rattle.headers.specs.ListLaws.{length-list_bytes}
-use Rattle.headers.specs.RoundTrip.{printed-header_of}
+use Rattle.headers.proofs.RoundTrip.{printed-header_of}
 use Rattle.links.specs.Fh.{fh_judged, fh_of}
-use Rattle.links.specs.FhLaws.{fh_of-start, fh_of-within, fh_of-range}
+use Rattle.links.proofs.FhLaws.{fh_of-start, fh_of-within, fh_of-range}
 use Rattle.packet.specs.declared.refusal.Refusal.TheVariants.{NoRoom}
 use Rattle.decompressor.specs.declared.answer.Outcome.TheVariants.{Accepted, Refused}
 use Rattle.decompressor.specs.declared.table.Table.{Table}

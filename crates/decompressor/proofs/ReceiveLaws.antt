@@ -13,14 +13,14 @@ use Rattle.settings.specs.SettingsLaws.{length_allowed-made}
 use Rattle.fields.specs.Place.{good}
 use Rattle.links.specs.declared.head.Head.{Head}
 use Rattle.links.specs.declared.head.ReadParts.{ReadParts}
-use Rattle.links.specs.FitsLaws.{CuFits, CrFits}
+use Rattle.links.proofs.FitsLaws.{CuFits, CrFits}
 use Rattle.links.specs.Head.{context_of, head_of}
 use Rattle.links.specs.Cu.{cu_bytes, cu_flags, cu_of}
-use Rattle.links.specs.CuLaws.{context_of-cu_bytes, head_of-cu_bytes, cu_of-cu_bytes}
+use Rattle.links.proofs.CuLaws.{context_of-cu_bytes, head_of-cu_bytes, cu_of-cu_bytes}
 use Rattle.links.specs.Cr.{cr_bytes, cr_flags, cr_of}
-use Rattle.links.specs.CrLaws.{context_of-cr_bytes, head_of-cr_bytes, cr_of-cr_bytes}
+use Rattle.links.proofs.CrLaws.{context_of-cr_bytes, head_of-cr_bytes, cr_of-cr_bytes}
 use Rattle.links.specs.Fh.{fh_bytes, fh_of}
-use Rattle.links.specs.FhLaws.{FhFits, length-fh_bytes, fh_judged-fh_bytes, fh_of-fh_bytes}
+use Rattle.links.proofs.FhLaws.{FhFits, length-fh_bytes, fh_judged-fh_bytes, fh_of-fh_bytes}
 use Rattle.context.specs.Decompressor.{accepted_as, applied, broke, filled}
 use Rattle.context.specs.declared.decompressor.Status.{Status}
 use Rattle.context.specs.declared.decompressor.Status.TheVariants.{Empty, Live, Broken}

@@ -25,13 +25,13 @@ use Rattle.links.specs.declared.cr.CrFlags.{CrFlags}
 use Rattle.links.specs.declared.cr.Second.{Second}
 use Rattle.links.specs.declared.cr.Deltas.{Deltas}
 use Rattle.links.specs.Sent.{delta16, delta32, none8, none16, none32}
-use Rattle.links.specs.SentLaws.{length_three, append-three, append-four, unsent8}
-use Rattle.links.specs.SentLaws.{unsent16, unsent32, AllBytes-delta16, AllBytes-delta32}
+use Rattle.links.proofs.SentLaws.{length_three, append-three, append-four, unsent8}
+use Rattle.links.proofs.SentLaws.{unsent16, unsent32, AllBytes-delta16, AllBytes-delta32}
 use Rattle.links.specs.Head.{head_bytes, context_of, head_of}
-use Rattle.links.specs.HeadLaws.{context_of-written, head_of-written}
+use Rattle.links.proofs.HeadLaws.{context_of-written, head_of-written}
 use Rattle.links.specs.Cr.{cr_flags_of, cr_flags_bits, cr_sent, cr_first, cr_flags, cr_second_byte, second_bytes, deltas_bytes, cr_bytes}
 use Rattle.links.specs.Cr.{all_four, second_with, second_of, deltas_of, cr_rest, cr_of}
-use Rattle.links.specs.FitsLaws.{CrFits}
+use Rattle.links.proofs.FitsLaws.{CrFits}
 
 ---- the second byte
 

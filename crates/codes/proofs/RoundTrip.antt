@@ -9,8 +9,8 @@ use Rattle.codes.specs.Difference.{has_code}
 use Rattle.codes.specs.Code.{rows, code_in, code_of}
 use Rattle.codes.specs.CodeLaws.{code_in-low, code_in-near, code_in-middle, code_in-far, code_in-high}
 use Rattle.codes.specs.Reading.{accepted, byte_at, word_at, value_in, read_byte, read_word, read_long, read_by, read_delta}
-use Rattle.codes.specs.ReadingLaws.{field_at-there, value_in-near, value_in-middle, value_in-far}
-use Rattle.codes.specs.ReadingLaws.{value_in-high, read_by-one, read_by-two, read_by-three}
+use Rattle.codes.proofs.ReadingLaws.{field_at-there, value_in-near, value_in-middle, value_in-far}
+use Rattle.codes.proofs.ReadingLaws.{value_in-high, read_by-one, read_by-two, read_by-three}
 
 ---- what is left from a place on
 

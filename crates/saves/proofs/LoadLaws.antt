@@ -29,17 +29,17 @@ use Rattle.context.proofs.DecompressorSound.{sound_none}
 use Rattle.decompressor.specs.declared.table.Table.{Table}
 use Rattle.decompressor.specs.Answer.{accepted, refused}
 use Rattle.decompressor.specs.Table.{no_context, is_empty}
-use Rattle.decompressor.specs.TableLaws.{range-empty_table}
+use Rattle.decompressor.proofs.TableLaws.{range-empty_table}
 use Rattle.saves.specs.declared.read.Front.{Front}
 use Rattle.saves.specs.declared.read.GotContext.{GotContext}
 use Rattle.saves.specs.declared.read.GotContexts.{GotContexts}
 use Rattle.saves.specs.Saves.{checked, allowed, next_up_to, record_bytes, records_bytes, record_of, records_of, with_record, whole_of}
 use Rattle.saves.specs.Saves.{front_of, body_bytes, saved_bytes, settled, load_records, load_of}
-use Rattle.saves.specs.StepLaws.{Goes, checked-goes, allowed-goes, checked-passed, next_byte-goes, next_up_to-goes}
-use Rattle.saves.specs.StepLaws.{next_byte-took, next_word-took, next_up_to-took}
-use Rattle.saves.specs.SizeLaws.{records_bytes-append}
-use Rattle.saves.specs.SavesLaws.{TableFits}
-use Rattle.saves.specs.ReadLaws.{RecordRead, record_of-goes, record_of-read}
+use Rattle.saves.proofs.StepLaws.{Goes, checked-goes, allowed-goes, checked-passed, next_byte-goes, next_up_to-goes}
+use Rattle.saves.proofs.StepLaws.{next_byte-took, next_word-took, next_up_to-took}
+use Rattle.saves.proofs.SizeLaws.{records_bytes-append}
+use Rattle.saves.proofs.SavesLaws.{TableFits}
+use Rattle.saves.proofs.ReadLaws.{RecordRead, record_of-goes, record_of-read}
 
 ---- The records
 

@@ -13,7 +13,7 @@ use Rattle.octets.specs.SumLaws.{plus-start, sum_of-zero, words_of-append, words
 use Rattle.headers.specs.Header.{header_of, flow_of, ip_of, header_bytes, ip_front, ip_back}
 use Rattle.headers.specs.Checksum.{ip_checksum_of, ip_checksum, high_word, low_word}
 use Rattle.headers.specs.Compressible.{fixed_form}
-use Rattle.headers.specs.CompressibleLaws.{fixed_form-true}
+use Rattle.headers.proofs.CompressibleLaws.{fixed_form-true}
 
 ---- the two words of a number of 32 bits
 

@@ -10,7 +10,7 @@ use Rattle.std.proofs.Math.Seq.{drop-nil}
 use Rattle.codes.specs.Numbers.{cut, forbidden, no_such_context}
 use Rattle.codes.specs.Bytes.{AllBytes, none, more}
 use Rattle.codes.specs.Reading.{byte_at}
-use Rattle.codes.specs.RoundTrip.{left-first, left-byte, left_after}
+use Rattle.codes.proofs.RoundTrip.{left-first, left-byte, left_after}
 use Rattle.octets.specs.Flags.{flags_of, byte_of}
 use Rattle.octets.specs.FlagsLaws.{flags_of-byte_of, byte_of-lt}
 use Rattle.packet.specs.Refusal.{first_refusal}

@@ -24,13 +24,13 @@ use Rattle.context.proofs.Unfilled.{blank, unfilled-blank}
 use Rattle.decompressor.specs.declared.table.Table.{Table}
 use Rattle.decompressor.specs.Answer.{Result, accepted, refused, delivered}
 use Rattle.decompressor.specs.Table.{no_context, context_at, empty_by, is_empty, sound_of, Sound}
-use Rattle.decompressor.specs.TableLaws.{sound-context_at, sound-repeats, sound-most}
+use Rattle.decompressor.proofs.TableLaws.{sound-context_at, sound-repeats, sound-most}
 use Rattle.saves.specs.declared.read.GotContexts.{GotContexts}
 use Rattle.saves.specs.Saves.{record_bytes, records_bytes, records_of, front_bytes, whole_of, front_of}
 use Rattle.saves.specs.Saves.{body_bytes, saved_bytes, save_of, load_of}
-use Rattle.saves.specs.StepLaws.{checked-passed, next_up_to-written}
-use Rattle.saves.specs.SizeLaws.{records_bytes-more, length-saved_bytes, saves-longest}
-use Rattle.saves.specs.RecordLaws.{record_of-bytes}
+use Rattle.saves.proofs.StepLaws.{checked-passed, next_up_to-written}
+use Rattle.saves.proofs.SizeLaws.{records_bytes-more, length-saved_bytes, saves-longest}
+use Rattle.saves.proofs.RecordLaws.{record_of-bytes}
 
 ---- A context that is empty
 

@@ -24,11 +24,11 @@ use Rattle.links.specs.declared.cu.CuSecond.{CuSecond}
 use Rattle.links.specs.declared.cu.Changes.{Changes}
 use Rattle.links.specs.declared.cu.Values.{Values}
 use Rattle.links.specs.Sent.{whole8, whole16, whole32, delta16, delta32, none16}
-use Rattle.links.specs.SentLaws.{length-four, append-four, unsent16}
-use Rattle.links.specs.SentLaws.{AllBytes-whole8, AllBytes-whole16, AllBytes-whole32, AllBytes-delta16, AllBytes-delta32}
-use Rattle.links.specs.FitsLaws.{CuFits}
+use Rattle.links.proofs.SentLaws.{length-four, append-four, unsent16}
+use Rattle.links.proofs.SentLaws.{AllBytes-whole8, AllBytes-whole16, AllBytes-whole32, AllBytes-delta16, AllBytes-delta32}
+use Rattle.links.proofs.FitsLaws.{CuFits}
 use Rattle.links.specs.Head.{head_bytes, context_of, head_of}
-use Rattle.links.specs.HeadLaws.{context_of-written, head_of-written}
+use Rattle.links.proofs.HeadLaws.{context_of-written, head_of-written}
 use Rattle.links.specs.Cu.{cu_second_of, cu_second_bits, cu_sent, cu_flags, cu_second}
 use Rattle.links.specs.Cu.{cu_second_byte, changes_bytes, values_bytes, cu_bytes}
 use Rattle.links.specs.Cu.{changes_of, values_of, cu_parts, cu_rest, cu_of}

@@ -21,9 +21,9 @@ use Rattle.decompressor.specs.Answer.{Result, accepted, refused}
 use Rattle.saves.specs.declared.read.Front.{Front}
 use Rattle.saves.specs.Saves.{checked, allowed, next_up_to, records_of, whole_of, front_of, body_bytes, saved_bytes, load_records}
 use Rattle.saves.specs.Saves.{load_of}
-use Rattle.saves.specs.SizeLaws.{length-saved_bytes, saves-longest}
-use Rattle.saves.specs.SavesLaws.{TableFits, load-saved}
-use Rattle.saves.specs.LoadLaws.{zero-accepted}
+use Rattle.saves.proofs.SizeLaws.{length-saved_bytes, saves-longest}
+use Rattle.saves.proofs.SavesLaws.{TableFits, load-saved}
+use Rattle.saves.proofs.LoadLaws.{zero-accepted}
 
 ---- A reading that was refused stays where it is
 

@@ -4,16 +4,16 @@ use Rattle.std.specs.Prelude.{ℕ, ◌≤◌, ◌<◌, ◌≡◌, true, List, le
 use Rattle.std.proofs.Common.{arith}
 use Rattle.codes.specs.Bytes.{AllBytes}
 use Rattle.headers.specs.Header.{header_of}
-use Rattle.headers.specs.HeaderLaws.{header_of-range}
-use Rattle.headers.specs.CompressibleLaws.{compressible-size}
+use Rattle.headers.proofs.HeaderLaws.{header_of-range}
+use Rattle.headers.proofs.CompressibleLaws.{compressible-size}
 use Rattle.settings.specs.SettingsLaws.{range-repeats, range-most}
 use Rattle.context.specs.Sound.{sound_compressor}
 use Rattle.compressor.specs.declared.table.Table.{Table}
 use Rattle.compressor.specs.Table.{no_context, context_at}
 use Rattle.context.proofs.AllLaws.{all-at}
 use Rattle.compressor.specs.Table.{Sound}
-use Rattle.compressor.specs.TableLaws.{sound_of-true}
-use Rattle.compressor.specs.SendLaws.{On}
+use Rattle.compressor.proofs.TableLaws.{sound_of-true}
+use Rattle.compressor.proofs.SendLaws.{On}
 use Rattle.compressor.specs.CanSend.{CanSend}
 use Rattle.outgoing.specs.StepLaws.{writable-step_on}
 

@@ -15,7 +15,7 @@ use Rattle.compressor.specs.declared.table.Table.{Table}
 use Rattle.compressor.specs.Answer.{Result, accepted, refused, delivered}
 use Rattle.compressor.specs.Table.{context_at, with_context, is_empty, empty_by, sound_of}
 use Rattle.compressor.specs.Lookup.{same_flow, is_of, lowest, or_else, place_of}
-use Rattle.compressor.specs.LookupLaws.{lowest-found}
+use Rattle.compressor.proofs.LookupLaws.{lowest-found}
 use Rattle.compressor.specs.Send.{step_on, sent_bytes, send_at, send_plain, send_to, send_of}
 
 ---- place_of

@@ -19,9 +19,9 @@ use Rattle.fields.specs.NextLaws.{left-past, next_byte-written, next_word-writte
 use Rattle.context.proofs.SoundFacts.{has_code-zero}
 use Rattle.saves.specs.declared.read.Fixed.{Fixed}
 use Rattle.saves.specs.Saves.{allowed, next_up_to, fixed_of}
-use Rattle.saves.specs.StepLaws.{Goes, checked-passed, allowed-goes, next_byte-goes, next_word-goes, next_long-goes}
-use Rattle.saves.specs.StepLaws.{next_up_to-goes, next_byte-took, next_word-took, next_long-took, next_up_to-took, next_up_to-written}
-use Rattle.saves.specs.StepLaws.{next_byte-unwanted, next_word-unwanted, next_long-unwanted, next_up_to-unwanted}
+use Rattle.saves.proofs.StepLaws.{Goes, checked-passed, allowed-goes, next_byte-goes, next_word-goes, next_long-goes}
+use Rattle.saves.proofs.StepLaws.{next_up_to-goes, next_byte-took, next_word-took, next_long-took, next_up_to-took, next_up_to-written}
+use Rattle.saves.proofs.StepLaws.{next_byte-unwanted, next_word-unwanted, next_long-unwanted, next_up_to-unwanted}
 
 abbrev pub fixed : (at state generation sequence did dts size : ℕ) → Fixed
 fixed at state generation sequence did dts size = record {

@@ -1,0 +1,11 @@
+pub mod AnswerLaws
+pub mod CanSendLaws
+pub mod FullLaws
+pub mod LookupLaws
+pub mod RequestLaws
+pub mod SendLaws
+pub mod SentLaws
+pub mod SoundLaws
+pub mod TableLaws
+pub mod TypeLaws
+pub mod ValuesLaws

@@ -1,0 +1,3 @@
+pub mod PlanesLaws
+pub mod EveryLaws
+pub mod ChainLaws

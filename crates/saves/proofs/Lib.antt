@@ -1,0 +1,10 @@
+pub mod Cases
+pub mod FileLaws
+pub mod FixedLaws
+pub mod KeptLaws
+pub mod LoadLaws
+pub mod ReadLaws
+pub mod RecordLaws
+pub mod SavesLaws
+pub mod SizeLaws
+pub mod StepLaws
