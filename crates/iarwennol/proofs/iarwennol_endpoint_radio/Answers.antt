@@ -1,8 +1,6 @@
 use Rattle.crtp.specs.Face.{lent}
 use Rattle.endpoint.specs.Lent.{ends}
 use Rattle.iarwennol.specs.PackedLaws.{answered-as}
-use Rattle.endpoint.proofs.from_radio.Reads as from-radio-reads
-use Rattle.iarwennol.proofs.pack.pack_answer.Reads as pack-answer-reads
 use Rattle.iarwennol.proofs.iarwennol_endpoint_radio.Goals as goal
 
 pub returns : goal.returns

@@ -1,7 +1,5 @@
 use Rattle.crtp.specs.Face.{lent}
 use Rattle.iarwennol.specs.PackedLaws.{given-as}
-use Rattle.crtp.proofs.load.Reads as load-reads
-use Rattle.iarwennol.proofs.pack.pack_given.Reads as pack-given-reads
 use Rattle.iarwennol.proofs.iarwennol_load.Goals as goal
 
 pub returns : goal.returns

@@ -1,7 +1,5 @@
 use Rattle.crtp.specs.Face.{lent}
 use Rattle.iarwennol.specs.PackedLaws.{given-as}
-use Rattle.crtp.proofs.open_decompressor.Reads as open-decompressor-reads
-use Rattle.iarwennol.proofs.pack.pack_given.Reads as pack-given-reads
 use Rattle.iarwennol.proofs.iarwennol_open_decompressor.Goals as goal
 
 pub returns : goal.returns

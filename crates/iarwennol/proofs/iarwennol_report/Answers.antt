@@ -1,7 +1,5 @@
 use Rattle.crtp.specs.Face.{lent}
 use Rattle.iarwennol.specs.PackedLaws.{told-as}
-use Rattle.crtp.proofs.report.Reads as report-reads
-use Rattle.iarwennol.proofs.pack.pack_given.Reads as pack-given-reads
 use Rattle.iarwennol.proofs.iarwennol_report.Goals as goal
 
 pub returns : goal.returns

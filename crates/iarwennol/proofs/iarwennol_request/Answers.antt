@@ -1,7 +1,5 @@
 use Rattle.crtp.specs.Face.{lent}
 use Rattle.iarwennol.specs.PackedLaws.{sent-as}
-use Rattle.crtp.proofs.request.Reads as request-reads
-use Rattle.iarwennol.proofs.pack.pack_sent.Reads as pack-sent-reads
 use Rattle.iarwennol.proofs.iarwennol_request.Goals as goal
 
 pub returns : goal.returns

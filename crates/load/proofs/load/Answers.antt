@@ -4,14 +4,10 @@ use Rattle.packet.specs.Refusal.{is_accepted}
 use Rattle.planes.specs.Planes.{lent}
 use Rattle.decompressor_table.specs.Layout.{sized}
 use Rattle.load.specs.LoadLaws.{front_of-most, load-unsized, lent-refused, lent-records}
-use Rattle.load.proofs.check.allow.Reads as allow-reads
-use Rattle.load.proofs.front.read_front.Reads as read-front-reads
-use Rattle.load.proofs.read_records.Reads as read-records-reads
-use Rattle.load.proofs.store.settle.Reads as settle-reads
 use Rattle.load.proofs.load.Goals as goal
 
 pub returns-then-not-sized : goal.returns-then-not-sized
-returns-then-not-sized c = load-unsized ((lent c.args.w.now c.args.h.now c.args.b.now)) c.args.s.now (not-true (sized ((lent c.args.w.now c.args.h.now c.args.b.now))) c.if-not-sized.true-raw)
+returns-then-not-sized c = load-unsized (lent c.args.w.now c.args.h.now c.args.b.now) c.args.s.now (not-true (sized (lent c.args.w.now c.args.h.now c.args.b.now)) c.if-not-sized.true-raw)
 
 pub read_records-records-requires : goal.read_records-records-requires
 read_records-records-requires c =
@@ -20,20 +16,20 @@ read_records-records-requires c =
     (front_of-most c.args.s.now (rw front.ensures at (ap is_accepted c.in-Accepted.is)))
 
 pub settle-requires : goal.settle-requires
-settle-requires c = not-false (sized ((lent c.args.w.now c.args.h.now c.args.b.now))) c.if-not-sized.false-raw
+settle-requires c = not-false (sized (lent c.args.w.now c.args.h.now c.args.b.now)) c.if-not-sized.false-raw
 
 pub returns-in-Accepted : goal.returns-in-Accepted
 returns-in-Accepted c =
     let front = c.read_front-front in
     let q = c.read_records-records in
     let p = c.allow-end in
-    lent-records ((lent c.args.w.now c.args.h.now c.args.b.now)) c.args.s.now (not-false (sized ((lent c.args.w.now c.args.h.now c.args.b.now))) c.if-not-sized.false-raw)
+    lent-records (lent c.args.w.now c.args.h.now c.args.b.now) c.args.s.now (not-false (sized (lent c.args.w.now c.args.h.now c.args.b.now)) c.if-not-sized.false-raw)
     front.result front.ensures
     q.result p.result _ _ c.in-Accepted.is q.ensures p.ensures c.settle.ensures
 
 pub returns-in-Refused : goal.returns-in-Refused
 returns-in-Refused c =
     let front = c.read_front-front in
-    lent-refused ((lent c.args.w.now c.args.h.now c.args.b.now)) c.args.s.now (not-false (sized ((lent c.args.w.now c.args.h.now c.args.b.now))) c.if-not-sized.false-raw)
+    lent-refused (lent c.args.w.now c.args.h.now c.args.b.now) c.args.s.now (not-false (sized (lent c.args.w.now c.args.h.now c.args.b.now)) c.if-not-sized.false-raw)
     front.result front.ensures _
     c.in-Refused.is

@@ -1,7 +1,6 @@
 use mathlib.Core.Path.{refl}
 use Rattle.octets.specs.PutLaws.{wrote-front}
 use Rattle.decompressor.proofs.PacketLaws.{said-no_room, said-accepted}
-use Rattle.octets.proofs.put.put_all.Reads as put-all-reads
 use Rattle.receive.proofs.receive_plain.Goals as goal
 
 pub returns-then-out-size : goal.returns-then-out-size

@@ -6,7 +6,6 @@ use Rattle.links.specs.Cs.{State}
 use Rattle.report.specs.ReportLaws.{states-all}
 use Rattle.report.specs.Told.{told}
 use Rattle.report.specs.ToldLaws.{length-told, told-count}
-use Rattle.report.proofs.records_at.Reads as records-at-reads
 use Rattle.report.proofs.count_records.Goals as goal
 
 pub loop-i-init : goal.loop-i-init

@@ -3,7 +3,6 @@ use mathlib.Core.Path.{◌≡◌}
 use lib.ListN.{length}
 use Rattle.report.specs.ReportLaws.{states_before}
 use Rattle.report.specs.Told.{told}
-use Rattle.report.proofs.records_at.Reads as records-at-reads
 use Rattle.report.proofs.count_records.Given as goal
 
 abbrev pub invariant-loop-i : goal.invariant-loop-i

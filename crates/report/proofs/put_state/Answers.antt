@@ -1,7 +1,6 @@
 use native.Mathlib.Omega.{arith}
 use borrow.Author.Tests.{lt-ltb, le-ltb}
 use Rattle.octets.specs.PutLaws.{wrote_nothing}
-use Rattle.refresh.proofs.cs.put_record.Reads as put-record-reads
 use Rattle.report.proofs.put_state.Goals as goal
 
 pub returns-then-status-le1 : goal.returns-then-status-le1

@@ -8,7 +8,6 @@ use Rattle.planes.proofs.EveryLaws.{every-at}
 use Rattle.report.specs.ReportLaws.{states-all}
 use Rattle.report.specs.Told.{linked_at, told}
 use Rattle.report.specs.ToldLaws.{length-told, told_more, told-room}
-use Rattle.report.proofs.put_state.Reads as put-state-reads
 use Rattle.report.proofs.put_states.Goals as goal
 
 pub loop-i-init : goal.loop-i-init

@@ -8,7 +8,6 @@ use Rattle.planes.specs.Planes.{every}
 use Rattle.report.specs.Report.{states_from}
 use Rattle.report.specs.ReportLaws.{states_before}
 use Rattle.report.specs.Told.{linked_at, told}
-use Rattle.report.proofs.put_state.Reads as put-state-reads
 use Rattle.report.proofs.put_states.Given as goal
 
 abbrev pub invariant-loop-i : goal.invariant-loop-i

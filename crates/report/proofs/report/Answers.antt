@@ -16,10 +16,6 @@ use Rattle.report.specs.Report.{states_from, report_of}
 use Rattle.report.specs.ReportLaws.{report-none, report-no_room, report-accepted}
 use Rattle.report.specs.Told.{told}
 use Rattle.report.specs.ToldLaws.{states-lent, linked-lent}
-use Rattle.decompressor_walk.proofs.sound.sound.Reads as sound-reads
-use Rattle.refresh.proofs.cs.put_count.Reads as put-count-reads
-use Rattle.report.proofs.count_records.Reads as count-records-reads
-use Rattle.report.proofs.put_states.Reads as put-states-reads
 use Rattle.report.proofs.report.Goals as goal
 
 -- how many are broken, by the bytes and by the table
@@ -35,7 +31,7 @@ pub count_records-n-requires : goal.count_records-n-requires
 count_records-n-requires c =
     let x = c.sound in
     let s = sym x.ensures ∙ not-false x.result c.if-not-sound.false-raw in
-    (fits-sizes ((lent c.args.w.now c.args.h.now c.args.b.now)) (sound-fits ((lent c.args.w.now c.args.h.now c.args.b.now)) s)).bytes
+    (fits-sizes (lent c.args.w.now c.args.h.now c.args.b.now) (sound-fits (lent c.args.w.now c.args.h.now c.args.b.now) s)).bytes
 
 pub returns-then-n-eq0 : goal.returns-then-n-eq0
 returns-then-n-eq0 c =

@@ -6,12 +6,6 @@ use Rattle.compressor.proofs.RequestLaws.{request_table-made}
 use Rattle.compressor_table.specs.Layout.{table_of}
 use Rattle.compressor_table.specs.LayoutLaws.{fits-sizes, table_of-repeats}
 use Rattle.request.proofs.Acting.{acted-start, acted-more}
-use Rattle.compressor_table.proofs.read.context_at.Reads as context-at-reads
-use Rattle.compressor_table.proofs.write.put_context.Reads as put-context-reads
-use Rattle.refresh.proofs.cs.record_asks.Reads as record-asks-reads
-use Rattle.refresh.proofs.cs.record_context.Reads as record-context-reads
-use Rattle.refresh.proofs.cs.record_count.Reads as record-count-reads
-use Rattle.request.proofs.act_on.Reads as act-on-reads
 use Rattle.request.proofs.act_on_all.Goals as goal
 
 pub bounds-b-1280 : goal.bounds-b-1280

@@ -3,15 +3,10 @@ use mathlib.Core.Bool.{true}
 use mathlib.Core.Path.{◌≡◌}
 use native.Mathlib.Omega.{arith}
 use Rattle.octets.specs.PutLaws.{wrote_then, wrote_nothing, wrote-length}
-use Rattle.planes.specs.Planes.{Lent, lent}
+use Rattle.planes.specs.Planes.{lent}
 use Rattle.decompressor_table.specs.LayoutLaws.{sound-fits, fits-sizes}
 use Rattle.save.specs.LentLaws.{sound-here, records-here, room-here}
-use Rattle.decompressor_table.proofs.read.context_at.Reads as context-at-reads
-use Rattle.save.proofs.record.put_record.Reads as put-record-reads
 use Rattle.save.proofs.put_records.Goals as goal
-
-abbrev handed : tie.Start invariant-loop decreases-loop → Lent
-handed s = lent s.args.w.now s.args.h.now s.args.b.now
 
 pub loop-i-init : goal.loop-i-init
 loop-i-init c = (
@@ -25,7 +20,7 @@ loop-i-init c = (
 pub context_at-context-requires : goal.context_at-context-requires
 context_at-context-requires c =
     let v = c.loop-i.invariant in
-    let z = fits-sizes (handed c) (sound-fits (handed c) v.0) in
+    let z = fits-sizes (lent c.args.w.now c.args.h.now c.args.b.now) (sound-fits (lent c.args.w.now c.args.h.now c.args.b.now) v.0) in
     (z.words, z.shorts, z.bytes, omega (arith, v.1, c.loop-i-test.true))
 
 pub put_record-past-requires : goal.put_record-past-requires
@@ -34,13 +29,13 @@ put_record-past-requires c =
     let x = c.context_at-context in
     let g = c.loop-i-test.true in
     let w = l.invariant.4 in (
-      sound-here (handed c) l.invariant.0 l.i (omega (arith, l.invariant.1, g)) x.result x.ensures,
+      sound-here (lent c.args.w.now c.args.h.now c.args.b.now) l.invariant.0 l.i (omega (arith, l.invariant.1, g)) x.result x.ensures,
       omega (
         arith,
         w.ends,
         wrote-length w,
         l.invariant.3,
-        room-here (handed c) l.invariant.0 l.i (omega (arith, l.invariant.1, g)) x.result x.ensures c.args.n g,
+        room-here (lent c.args.w.now c.args.h.now c.args.b.now) l.invariant.0 l.i (omega (arith, l.invariant.1, g)) x.result x.ensures c.args.n g,
       ),
     )
 
@@ -52,7 +47,7 @@ loop-i-preserved c =
       l.invariant.1,
       omega arith,
       l.invariant.3,
-      rw (records-here (handed c) l.invariant.0 l.i (omega (arith, l.invariant.1, c.loop-i-test.true)) x.result x.ensures)
+      rw (records-here (lent c.args.w.now c.args.h.now c.args.b.now) l.invariant.0 l.i (omega (arith, l.invariant.1, c.loop-i-test.true)) x.result x.ensures)
           (wrote_then l.invariant.4 c.put_record-past.ensures),
     )
 

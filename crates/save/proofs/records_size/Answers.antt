@@ -2,15 +2,10 @@ use Prim.Native.Nat.{◌-◌}
 use mathlib.Core.Bool.{true}
 use mathlib.Core.Path.{◌≡◌, refl}
 use native.Mathlib.Omega.{arith}
-use Rattle.planes.specs.Planes.{Lent, lent}
+use Rattle.planes.specs.Planes.{lent}
 use Rattle.decompressor_table.specs.LayoutLaws.{sound-fits, fits-sizes}
 use Rattle.save.specs.LentLaws.{sound-here, length-here}
-use Rattle.decompressor_table.proofs.read.context_at.Reads as context-at-reads
-use Rattle.save.proofs.record.record_size.Reads as record-size-reads
 use Rattle.save.proofs.records_size.Goals as goal
-
-abbrev handed : tie.Start invariant-loop decreases-loop → Lent
-handed s = lent s.args.w.now s.args.h.now s.args.b.now
 
 pub loop-i-init : goal.loop-i-init
 loop-i-init c = (c.requires.0, c.requires.1, omega arith, refl, omega arith)
@@ -18,13 +13,13 @@ loop-i-init c = (c.requires.0, c.requires.1, omega arith, refl, omega arith)
 pub context_at-context-requires : goal.context_at-context-requires
 context_at-context-requires c =
     let v = c.loop-i.invariant in
-    let z = fits-sizes (handed c) (sound-fits (handed c) v.0) in
+    let z = fits-sizes (lent c.args.w.now c.args.h.now c.args.b.now) (sound-fits (lent c.args.w.now c.args.h.now c.args.b.now) v.0) in
     (z.words, z.shorts, z.bytes, omega (arith, v.1, c.loop-i-test.true))
 
 pub record_size-size-requires : goal.record_size-size-requires
 record_size-size-requires c =
     let l = c.loop-i in
-    sound-here (handed c) l.invariant.0 l.i (omega (
+    sound-here (lent c.args.w.now c.args.h.now c.args.b.now) l.invariant.0 l.i (omega (
       arith,
       l.invariant.1,
       c.loop-i-test.true,
@@ -42,7 +37,7 @@ loop-i-preserved c =
       omega arith,
       omega (
         arith,
-        length-here (handed c) l.invariant.0 l.i (omega (
+        length-here (lent c.args.w.now c.args.h.now c.args.b.now) l.invariant.0 l.i (omega (
           arith,
           l.invariant.1,
           c.loop-i-test.true,

@@ -6,8 +6,6 @@ use Rattle.planes.specs.Planes.{lent}
 use Rattle.decompressor.specs.Table.{sound_of}
 use Rattle.decompressor_table.specs.Layout.{table_of}
 use Rattle.saves.specs.Saves.{records_bytes}
-use Rattle.decompressor_table.proofs.read.context_at.Reads as context-at-reads
-use Rattle.save.proofs.record.record_size.Reads as record-size-reads
 use Rattle.save.proofs.records_size.Given as goal
 
 abbrev pub invariant-loop-i : goal.invariant-loop-i

@@ -12,11 +12,11 @@ both a b e = (and-eq-true_iff a b).0 e
 
 pub list_at-list-requires : goal.list_at-list-requires
 list_at-list-requires c =
-    let z = fits-sizes ((lent c.args.w.now c.args.h.now c.args.b.now)) c.requires.0 in (z.words, z.bytes, c.requires.1.place)
+    let z = fits-sizes (lent c.args.w.now c.args.h.now c.args.b.now) c.requires.0 in (z.words, z.bytes, c.requires.1.place)
 
 pub context_with-context-requires : goal.context_with-context-requires
 context_with-context-requires c =
-    let z = fits-sizes ((lent c.args.w.now c.args.h.now c.args.b.now)) c.requires.0 in
+    let z = fits-sizes (lent c.args.w.now c.args.h.now c.args.b.now) c.requires.0 in
     (z.words, z.shorts, z.bytes, c.requires.1.place, c.list_at-list.ensures)
 
 pub send_steady-requires : goal.send_steady-requires

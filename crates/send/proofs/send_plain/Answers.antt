@@ -1,5 +1,4 @@
 use Rattle.compressor.proofs.AnswerLaws.{delivered-refused, delivered-written}
-use Rattle.octets.proofs.put.put_all.Reads as put-all-reads
 use Rattle.send.proofs.send_plain.Goals as goal
 
 pub returns-then-out-p : goal.returns-then-out-p

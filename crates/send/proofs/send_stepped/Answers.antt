@@ -11,18 +11,18 @@ use Rattle.send.proofs.send_stepped.Goals as goal
 
 pub list_at-list-requires : goal.list_at-list-requires
 list_at-list-requires c =
-    let z = fits-sizes ((lent c.args.w.now c.args.h.now c.args.b.now)) c.requires.0 in (z.words, z.bytes, c.requires.1.place)
+    let z = fits-sizes (lent c.args.w.now c.args.h.now c.args.b.now) c.requires.0 in (z.words, z.bytes, c.requires.1.place)
 
 pub context_with-context-requires : goal.context_with-context-requires
 context_with-context-requires c =
-    let z = fits-sizes ((lent c.args.w.now c.args.h.now c.args.b.now)) c.requires.0 in
+    let z = fits-sizes (lent c.args.w.now c.args.h.now c.args.b.now) c.requires.0 in
     (z.words, z.shorts, z.bytes, c.requires.1.place, c.list_at-list.ensures)
 
 pub bounds-b-1280 : goal.bounds-b-1280
 bounds-b-1280 c =
     omega (
       arith,
-      (fits-sizes ((lent c.args.w.now c.args.h.now c.args.b.now)) c.requires.0).bytes,
+      (fits-sizes (lent c.args.w.now c.args.h.now c.args.b.now) c.requires.0).bytes,
     )
 
 pub step_on-step-requires : goal.step_on-step-requires
@@ -30,7 +30,7 @@ step_on-step-requires c =
     omega (
       arith,
       c.requires.1.repeats,
-      table_of-repeats ((lent c.args.w.now c.args.h.now c.args.b.now)) c.requires.0,
+      table_of-repeats (lent c.args.w.now c.args.h.now c.args.b.now) c.requires.0,
     )
 
 pub slice_bounds-tail-count : goal.slice_bounds-tail-count
@@ -53,7 +53,7 @@ pub link_size-requires : goal.link_size-requires
 link_size-requires c =
     let a = c.args in
     let x = c.step_on-step in
-    (rw (step-here ((lent c.args.w.now c.args.h.now c.args.b.now)) a.i a.x c.context_with-context.result (stepped x.result) c.requires.0 c.requires.1.place
+    (rw (step-here (lent c.args.w.now c.args.h.now c.args.b.now) a.i a.x c.context_with-context.result (stepped x.result) c.requires.0 c.requires.1.place
     c.context_with-context.ensures x.ensures) c.requires.1.writable)
 
 pub overflow_add-size : goal.overflow_add-size
@@ -70,10 +70,10 @@ returns-then-out-size c =
     let x = c.step_on-step in
     let f = c.header_size-start in
     let l = c.link_size in
-    gives-kept ((lent c.args.w.now c.args.h.now c.args.b.now)) _ a.out.now (send_with ((table_of ((lent c.args.w.now c.args.h.now c.args.b.now)))) a.i a.p.now a.out.now a.x)
-    (send_with-refused ((table_of ((lent c.args.w.now c.args.h.now c.args.b.now)))) a.i a.p.now a.out.now a.x (stepped x.result) (rw (step-here ((lent c.args.w.now c.args.h.now c.args.b.now)) a.i a.x c.context_with-context.result (stepped x.result) c.requires.0 c.requires.1.place
+    gives-kept (lent c.args.w.now c.args.h.now c.args.b.now) _ a.out.now (send_with ((table_of (lent c.args.w.now c.args.h.now c.args.b.now))) a.i a.p.now a.out.now a.x)
+    (send_with-refused ((table_of (lent c.args.w.now c.args.h.now c.args.b.now))) a.i a.p.now a.out.now a.x (stepped x.result) (rw (step-here (lent c.args.w.now c.args.h.now c.args.b.now) a.i a.x c.context_with-context.result (stepped x.result) c.requires.0 c.requires.1.place
     c.context_with-context.ensures x.ensures) c.requires.1.writable)
-    l.result f.result l.ensures.0 f.ensures (step-here ((lent c.args.w.now c.args.h.now c.args.b.now)) a.i a.x c.context_with-context.result (stepped x.result) c.requires.0 c.requires.1.place
+    l.result f.result l.ensures.0 f.ensures (step-here (lent c.args.w.now c.args.h.now c.args.b.now) a.i a.x c.context_with-context.result (stepped x.result) c.requires.0 c.requires.1.place
     c.context_with-context.ensures x.ensures)
     (omega (arith, length_rest a.p.now f.result, c.if-out-size.true)))
 
@@ -95,7 +95,7 @@ pub put_link-past-requires : goal.put_link-past-requires
 put_link-past-requires c =
     let a = c.args in
     let x = c.step_on-step in (
-      (rw (step-here ((lent c.args.w.now c.args.h.now c.args.b.now)) a.i a.x c.context_with-context.result
+      (rw (step-here (lent c.args.w.now c.args.h.now c.args.b.now) a.i a.x c.context_with-context.result
           (stepped x.result) c.requires.0 c.requires.1.place
           c.context_with-context.ensures x.ensures) c.requires.1.writable),
       omega (arith, c.if-out-size.false, c.link_size.ensures.0),
@@ -107,7 +107,7 @@ put_all-length-requires c =
     let x = c.step_on-step in
     let f = c.header_size-start in
     let l = c.link_size in
-    let w = past-link ((table_of ((lent c.args.w.now c.args.h.now c.args.b.now)))) a.i a.p.now a.out.now a.x (stepped x.result) (rw (step-here ((lent c.args.w.now c.args.h.now c.args.b.now)) a.i a.x c.context_with-context.result
+    let w = past-link ((table_of (lent c.args.w.now c.args.h.now c.args.b.now))) a.i a.p.now a.out.now a.x (stepped x.result) (rw (step-here (lent c.args.w.now c.args.h.now c.args.b.now) a.i a.x c.context_with-context.result
     (stepped x.result) c.requires.0 c.requires.1.place
     c.context_with-context.ensures x.ensures)
     c.requires.1.writable)
@@ -127,12 +127,12 @@ returns c =
     let x = c.step_on-step in
     let f = c.header_size-start in
     let l = c.link_size in
-    gives-sent ((lent c.args.w.now c.args.h.now c.args.b.now)) _ a.i c.kind_number.result c.put_all-length.result (stepped x.result).context _
-    (send_with ((table_of ((lent c.args.w.now c.args.h.now c.args.b.now)))) a.i a.p.now a.out.now a.x) c.put_context.ensures
-    (send_with-written ((table_of ((lent c.args.w.now c.args.h.now c.args.b.now)))) a.i a.p.now a.out.now a.x (stepped x.result) (rw (step-here ((lent c.args.w.now c.args.h.now c.args.b.now)) a.i a.x c.context_with-context.result
+    gives-sent (lent c.args.w.now c.args.h.now c.args.b.now) _ a.i c.kind_number.result c.put_all-length.result (stepped x.result).context _
+    (send_with ((table_of (lent c.args.w.now c.args.h.now c.args.b.now))) a.i a.p.now a.out.now a.x) c.put_context.ensures
+    (send_with-written ((table_of (lent c.args.w.now c.args.h.now c.args.b.now))) a.i a.p.now a.out.now a.x (stepped x.result) (rw (step-here (lent c.args.w.now c.args.h.now c.args.b.now) a.i a.x c.context_with-context.result
     (stepped x.result) c.requires.0 c.requires.1.place
     c.context_with-context.ensures x.ensures) c.requires.1.writable)
-    l.result f.result l.ensures.0 f.ensures (step-here ((lent c.args.w.now c.args.h.now c.args.b.now)) a.i a.x c.context_with-context.result (stepped
+    l.result f.result l.ensures.0 f.ensures (step-here (lent c.args.w.now c.args.h.now c.args.b.now) a.i a.x c.context_with-context.result (stepped
     x.result) c.requires.0 c.requires.1.place
     c.context_with-context.ensures x.ensures) c.kind_number.result c.kind_number.ensures
     (omega (

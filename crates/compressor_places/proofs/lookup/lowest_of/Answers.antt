@@ -9,7 +9,6 @@ use Rattle.compressor.proofs.LookupLaws.{lowest-end}
 use Rattle.compressor_table.specs.Layout.{table_of}
 use Rattle.compressor_table.specs.LayoutLaws.{fits-sizes}
 use Rattle.compressor_places.proofs.Found.{lowest-at}
-use Rattle.compressor_places.proofs.lookup.is_of.Reads as is-of-reads
 use Rattle.compressor_places.proofs.lookup.lowest_of.Goals as goal
 
 pub loop-i-init : goal.loop-i-init

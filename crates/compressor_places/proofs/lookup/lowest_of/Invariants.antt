@@ -3,7 +3,6 @@ use mathlib.Core.Path.{◌≡◌}
 use Rattle.planes.specs.Planes.{lent}
 use Rattle.compressor.specs.Lookup.{lowest, is_of}
 use Rattle.compressor_table.specs.Layout.{table_of}
-use Rattle.compressor_places.proofs.lookup.is_of.Reads as is-of-reads
 use Rattle.compressor_places.proofs.lookup.lowest_of.Given as goal
 
 abbrev pub invariant-loop-i : goal.invariant-loop-i

@@ -1,5 +1,3 @@
-use Rattle.compressor_table.proofs.write.bit.Reads as bit-reads
-use Rattle.compressor_table.proofs.write.usage_number.Reads as usage-number-reads
 use Rattle.compressor_table.proofs.write.bytes_of.Goals as goal
 
 pub returns : goal.returns

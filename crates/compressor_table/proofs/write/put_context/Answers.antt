@@ -3,25 +3,19 @@ use lib.ListN.{length}
 use Rattle.planes.specs.Planes.{lent}
 use Rattle.compressor_table.specs.LayoutLaws.{fits-sizes, puts-put}
 use borrow.Author.Rules.{rules}
-use Rattle.compressor_table.proofs.write.bytes_of.Reads as bytes-of-reads
-use Rattle.compressor_table.proofs.write.put_bytes.Reads as put-bytes-reads
-use Rattle.compressor_table.proofs.write.put_shorts.Reads as put-shorts-reads
-use Rattle.compressor_table.proofs.write.put_words.Reads as put-words-reads
-use Rattle.compressor_table.proofs.write.shorts_of.Reads as shorts-of-reads
-use Rattle.compressor_table.proofs.write.words_of.Reads as words-of-reads
 use Rattle.compressor_table.proofs.write.put_context.Goals as goal
 
 pub put_words-requires : goal.put_words-requires
 put_words-requires c =
-    ((fits-sizes ((lent c.args.w.now c.args.h.now c.args.b.now)) c.requires.0).words, c.requires.1)
+    ((fits-sizes (lent c.args.w.now c.args.h.now c.args.b.now) c.requires.0).words, c.requires.1)
 
 pub put_shorts-requires : goal.put_shorts-requires
 put_shorts-requires c =
-    ((fits-sizes ((lent c.args.w.now c.args.h.now c.args.b.now)) c.requires.0).shorts, c.requires.1)
+    ((fits-sizes (lent c.args.w.now c.args.h.now c.args.b.now) c.requires.0).shorts, c.requires.1)
 
 pub put_bytes-requires : goal.put_bytes-requires
 put_bytes-requires c =
-    ((fits-sizes ((lent c.args.w.now c.args.h.now c.args.b.now)) c.requires.0).bytes, c.requires.1)
+    ((fits-sizes (lent c.args.w.now c.args.h.now c.args.b.now) c.requires.0).bytes, c.requires.1)
 
 pub returns : goal.returns
 returns c =
@@ -34,4 +28,4 @@ returns c =
       c.shorts_of-y.ensures,
       c.bytes_of-z.ensures,
     )
-    (puts-put ((lent c.args.w.now c.args.h.now c.args.b.now)) c.args.i c.args.c c.requires.0 c.requires.1 (many))
+    (puts-put (lent c.args.w.now c.args.h.now c.args.b.now) c.args.i c.args.c c.requires.0 c.requires.1 (many))

@@ -2,7 +2,6 @@ use Prim.Native.Nat.{◌-◌}
 use native.Mathlib.Omega.{arith}
 use Rattle.planes.proofs.EveryLaws.{every_more, every-done}
 use Rattle.compressor_walk.specs.Walk.{coded_at}
-use Rattle.codes.proofs.code.has_code32.Reads as has-code32-reads
 use Rattle.compressor_walk.proofs.sound.deltas_coded.Goals as goal
 
 pub loop-i-preserved : goal.loop-i-preserved

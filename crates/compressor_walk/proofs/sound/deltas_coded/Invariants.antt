@@ -3,7 +3,6 @@ use mathlib.Core.Path.{◌≡◌}
 use lib.ListN.{length}
 use Rattle.planes.specs.Planes.{every}
 use Rattle.compressor_walk.specs.Walk.{coded_at}
-use Rattle.codes.proofs.code.has_code32.Reads as has-code32-reads
 use Rattle.compressor_walk.proofs.sound.deltas_coded.Given as goal
 
 abbrev pub invariant-loop-i : goal.invariant-loop-i

@@ -8,23 +8,17 @@ use Rattle.planes.specs.Planes.{lent}
 use Rattle.compressor_table.specs.Layout.{sized}
 use Rattle.compressor_table.specs.LayoutLaws.{Sizes, sized-true}
 use Rattle.compressor_walk.proofs.Walk.{within, sound-walk, unsound-sized, unsound-settings}
-use Rattle.compressor_walk.proofs.sound.dues_sound.Reads as dues-sound-reads
-use Rattle.compressor_walk.proofs.sound.heads_sound.Reads as heads-sound-reads
-use Rattle.compressor_walk.proofs.sound.lists_sound.Reads as lists-sound-reads
-use Rattle.compressor_walk.proofs.sound.unused_from.Reads as unused-from-reads
-use Rattle.compressor_walk.proofs.sound.wide_sound.Reads as wide-sound-reads
-use Rattle.settings.proofs.Settings.is_sound.Reads as is-sound-reads
 use Rattle.compressor_walk.proofs.sound.sound.Goals.{Else-not-is_sound, Else-not-sized}
 use Rattle.compressor_walk.proofs.sound.sound.Goals as goal
 
-fit : (c : Else-not-sized) → sized (((lent c.args.w.now c.args.h.now c.args.b.now))) ≡ true
-fit c = not-false (sized (((lent c.args.w.now c.args.h.now c.args.b.now)))) c.if-not-sized.false-raw
+fit : (c : Else-not-sized) → sized ((lent c.args.w.now c.args.h.now c.args.b.now)) ≡ true
+fit c = not-false (sized ((lent c.args.w.now c.args.h.now c.args.b.now))) c.if-not-sized.false-raw
 
-sizes : (c : Else-not-sized) → Sizes (((lent c.args.w.now c.args.h.now c.args.b.now)))
-sizes c = sized-true (((lent c.args.w.now c.args.h.now c.args.b.now))) (fit c)
+sizes : (c : Else-not-sized) → Sizes ((lent c.args.w.now c.args.h.now c.args.b.now))
+sizes c = sized-true ((lent c.args.w.now c.args.h.now c.args.b.now)) (fit c)
 
 -- past the test of the settings
-ranged : (c : Else-not-is_sound) → within (((lent c.args.w.now c.args.h.now c.args.b.now))) ≡ true
+ranged : (c : Else-not-is_sound) → within ((lent c.args.w.now c.args.h.now c.args.b.now)) ≡ true
 ranged c = sym c.is_sound.ensures ∙ not-false _ c.if-not-is_sound.false-raw
 
 pub returns-then-not-sized : goal.returns-then-not-sized
@@ -46,7 +40,7 @@ heads_sound-heads-requires c = (sizes (goal.at.heads_sound-heads-requires c).Els
 
 pub dues_sound-dues-requires : goal.dues_sound-dues-requires
 dues_sound-dues-requires c =
-    let l = ((lent c.args.w.now c.args.h.now c.args.b.now)) in (
+    let l = (lent c.args.w.now c.args.h.now c.args.b.now) in (
       range-repeats (get_or l.bytes 1280 0) (get_or l.bytes 1281 0) (ranged (goal.at.dues_sound-dues-requires c).Else-not-is_sound),
       (sizes (goal.at.dues_sound-dues-requires c).Else-not-sized).bytes,
     )
@@ -62,7 +56,7 @@ unused_from-unused-requires c = (sizes (goal.at.unused_from-unused-requires c).E
 
 pub returns : goal.returns
 returns c =
-    sound-walk (((lent c.args.w.now c.args.h.now c.args.b.now))) _ _ _ _ _ (fit (goal.at.returns c).Else-not-sized) (ranged (goal.at.returns c).Else-not-is_sound)
+    sound-walk ((lent c.args.w.now c.args.h.now c.args.b.now)) _ _ _ _ _ (fit (goal.at.returns c).Else-not-sized) (ranged (goal.at.returns c).Else-not-is_sound)
     c.heads_sound-heads.ensures
     c.dues_sound-dues.ensures
     c.wide_sound-wide.ensures

@@ -1,11 +1,6 @@
 use mathlib.Core.Path.{◌∙◌, sym}
 use mathlib.Core.Bool.{◌&&◌}
 use Rattle.compressor_walk.proofs.Walk.{wide-used}
-use Rattle.compressor_walk.proofs.sound.all_used.Reads as all-used-reads
-use Rattle.compressor_walk.proofs.sound.deltas_coded.Reads as deltas-coded-reads
-use Rattle.compressor_walk.proofs.sound.ports_even.Reads as ports-even-reads
-use Rattle.compressor_walk.proofs.sound.shorts_sound.Reads as shorts-sound-reads
-use Rattle.compressor_walk.proofs.sound.words_sound.Reads as words-sound-reads
 use Rattle.compressor_walk.proofs.sound.wide_sound.Goals as goal
 
 pub returns-then-all_used : goal.returns-then-all_used

@@ -1,11 +1,4 @@
 use Rattle.decompressor_table.specs.Layout.{context_of}
-use Rattle.decompressor_table.proofs.read.deltas_at.Reads as deltas-at-reads
-use Rattle.decompressor_table.proofs.read.flow_at.Reads as flow-at-reads
-use Rattle.decompressor_table.proofs.read.ip_at.Reads as ip-at-reads
-use Rattle.decompressor_table.proofs.read.link_at.Reads as link-at-reads
-use Rattle.decompressor_table.proofs.read.list_at.Reads as list-at-reads
-use Rattle.decompressor_table.proofs.read.rtp_at.Reads as rtp-at-reads
-use Rattle.decompressor_table.proofs.read.status_of.Reads as status-of-reads
 use Rattle.decompressor_table.proofs.read.context_at.Goals as goal
 
 pub deltas_at-deltas-requires : goal.deltas_at-deltas-requires

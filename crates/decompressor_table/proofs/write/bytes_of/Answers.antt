@@ -1,5 +1,3 @@
-use Rattle.decompressor_table.proofs.write.bit.Reads as bit-reads
-use Rattle.decompressor_table.proofs.write.status_number.Reads as status-number-reads
 use Rattle.decompressor_table.proofs.write.bytes_of.Goals as goal
 
 pub returns : goal.returns

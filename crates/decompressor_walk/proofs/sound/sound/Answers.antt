@@ -6,22 +6,17 @@ use Rattle.planes.specs.Planes.{lent}
 use Rattle.decompressor_table.specs.Layout.{sized}
 use Rattle.decompressor_table.specs.LayoutLaws.{Sizes, sized-true}
 use Rattle.decompressor_walk.proofs.Walk.{within, sound-walk, unsound-sized, unsound-settings}
-use Rattle.decompressor_walk.proofs.sound.bytes_sound.Reads as bytes-sound-reads
-use Rattle.decompressor_walk.proofs.sound.lists_sound.Reads as lists-sound-reads
-use Rattle.decompressor_walk.proofs.sound.unused_from.Reads as unused-from-reads
-use Rattle.decompressor_walk.proofs.sound.wide_sound.Reads as wide-sound-reads
-use Rattle.settings.proofs.Settings.is_sound.Reads as is-sound-reads
 use Rattle.decompressor_walk.proofs.sound.sound.Goals.{Else-not-is_sound, Else-not-sized}
 use Rattle.decompressor_walk.proofs.sound.sound.Goals as goal
 
-fit : (c : Else-not-sized) → sized (((lent c.args.w.now c.args.h.now c.args.b.now))) ≡ true
-fit c = not-false (sized (((lent c.args.w.now c.args.h.now c.args.b.now)))) c.if-not-sized.false-raw
+fit : (c : Else-not-sized) → sized ((lent c.args.w.now c.args.h.now c.args.b.now)) ≡ true
+fit c = not-false (sized ((lent c.args.w.now c.args.h.now c.args.b.now))) c.if-not-sized.false-raw
 
-sizes : (c : Else-not-sized) → Sizes (((lent c.args.w.now c.args.h.now c.args.b.now)))
-sizes c = sized-true (((lent c.args.w.now c.args.h.now c.args.b.now))) (fit c)
+sizes : (c : Else-not-sized) → Sizes ((lent c.args.w.now c.args.h.now c.args.b.now))
+sizes c = sized-true ((lent c.args.w.now c.args.h.now c.args.b.now)) (fit c)
 
 -- past the test of the settings
-ranged : (c : Else-not-is_sound) → within (((lent c.args.w.now c.args.h.now c.args.b.now))) ≡ true
+ranged : (c : Else-not-is_sound) → within ((lent c.args.w.now c.args.h.now c.args.b.now)) ≡ true
 ranged c = sym c.is_sound.ensures ∙ not-false _ c.if-not-is_sound.false-raw
 
 pub returns-then-not-sized : goal.returns-then-not-sized
@@ -52,7 +47,7 @@ unused_from-unused-requires c = (sizes (goal.at.unused_from-unused-requires c).E
 
 pub returns : goal.returns
 returns c =
-    sound-walk (((lent c.args.w.now c.args.h.now c.args.b.now))) _ _ _ _ (fit (goal.at.returns c).Else-not-sized) (ranged (goal.at.returns c).Else-not-is_sound)
+    sound-walk ((lent c.args.w.now c.args.h.now c.args.b.now)) _ _ _ _ (fit (goal.at.returns c).Else-not-sized) (ranged (goal.at.returns c).Else-not-is_sound)
     c.bytes_sound-bytes.ensures
     c.wide_sound-wide.ensures
     c.lists_sound-lists.ensures

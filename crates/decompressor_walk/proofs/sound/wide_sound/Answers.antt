@@ -1,10 +1,6 @@
 use mathlib.Core.Path.{◌∙◌, sym}
 use mathlib.Core.Bool.{◌&&◌}
 use Rattle.decompressor_walk.proofs.Walk.{wide-filled}
-use Rattle.decompressor_walk.proofs.sound.all_filled.Reads as all-filled-reads
-use Rattle.decompressor_walk.proofs.sound.deltas_coded.Reads as deltas-coded-reads
-use Rattle.decompressor_walk.proofs.sound.shorts_sound.Reads as shorts-sound-reads
-use Rattle.decompressor_walk.proofs.sound.words_sound.Reads as words-sound-reads
 use Rattle.decompressor_walk.proofs.sound.wide_sound.Goals as goal
 
 pub returns-then-all_filled : goal.returns-then-all_filled

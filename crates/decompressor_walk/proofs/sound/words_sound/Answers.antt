@@ -3,7 +3,6 @@ use native.Mathlib.Omega.{arith}
 use Rattle.planes.specs.Planes.{row}
 use Rattle.planes.proofs.EveryLaws.{every_more, every-done}
 use Rattle.decompressor_walk.specs.Walk.{word_test}
-use Rattle.codes.proofs.code.has_code32.Reads as has-code32-reads
 use Rattle.decompressor_walk.proofs.sound.words_sound.Goals as goal
 
 pub loop-i-preserved : goal.loop-i-preserved

@@ -3,7 +3,6 @@ use mathlib.Core.Path.{◌≡◌}
 use lib.ListN.{length}
 use Rattle.planes.specs.Planes.{row, every}
 use Rattle.decompressor_walk.specs.Walk.{word_test}
-use Rattle.codes.proofs.code.has_code32.Reads as has-code32-reads
 use Rattle.decompressor_walk.proofs.sound.words_sound.Given as goal
 
 abbrev pub invariant-loop-i : goal.invariant-loop-i

@@ -2,9 +2,6 @@ use mathlib.Core.Path.{◌∙◌, ap}
 use Rattle.endpoint.specs.declared.totals.Totals.{Totals}
 use Rattle.endpoint.specs.Totals.{tallied}
 use Rattle.endpoint.specs.Outcomes.{event_of}
-use Rattle.endpoint.proofs.answer.tally.Reads as tally-reads
-use Rattle.endpoint.proofs.totals.put_totals.Reads as put-totals-reads
-use Rattle.endpoint.proofs.totals.totals_at.Reads as totals-at-reads
 use Rattle.endpoint.proofs.routes.count_in.Goals as goal
 
 pub returns : goal.returns

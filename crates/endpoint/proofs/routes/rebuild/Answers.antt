@@ -5,22 +5,19 @@ use Rattle.endpoint.specs.declared.answer.Outcome.{Outcome}
 use Rattle.endpoint.specs.Totals.{totals_of, tallied}
 use Rattle.endpoint.specs.Outcomes.{event_of}
 use Rattle.endpoint.proofs.Routed.{closed-rebuild, rebuilt-at}
-use Rattle.crtp.proofs.receive.Reads as receive-reads
-use Rattle.endpoint.proofs.answer.rebuilt.Reads as rebuilt-reads
-use Rattle.endpoint.proofs.routes.count_in.Reads as count-in-reads
 use Rattle.endpoint.proofs.routes.rebuild.Goals as goal
 
 pub returns-then-t-ne-COUNT : goal.returns-then-t-ne-COUNT
 returns-then-t-ne-COUNT c = λ x.
     let a = c.args in
-    closed-rebuild x ((lent c.args.w.now c.args.h.now c.args.b.now)) a.t.now (ne_eqb _ _ c.if-t-ne-COUNT.true) a.kind a.s.now a.out.now
+    closed-rebuild x (lent c.args.w.now c.args.h.now c.args.b.now) a.t.now (ne_eqb _ _ c.if-t-ne-COUNT.true) a.kind a.s.now a.out.now
 
 pub returns : goal.returns
 returns c = λ x.
     let a = c.args in
     rw c.rebuilt-outcome.ensures
     (rebuilt-at a.t.now _ (eq-eqb _ _ c.if-t-ne-COUNT.false) c.count_in.ensures.0 x
-    ((lent c.args.w.now c.args.h.now c.args.b.now)) _
+    (lent c.args.w.now c.args.h.now c.args.b.now) _
     c.receive-o.result
     a.kind a.s.now a.out.now _
     (c.count_in.ensures.1

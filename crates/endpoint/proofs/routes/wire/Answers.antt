@@ -5,21 +5,18 @@ use Rattle.endpoint.specs.declared.answer.Outcome.{Outcome}
 use Rattle.endpoint.specs.Totals.{totals_of, tallied}
 use Rattle.endpoint.specs.Outcomes.{event_of}
 use Rattle.endpoint.proofs.Routed.{closed-wire, wired}
-use Rattle.crtp.proofs.send.Reads as send-reads
-use Rattle.endpoint.proofs.answer.sent.Reads as sent-reads
-use Rattle.endpoint.proofs.routes.count_in.Reads as count-in-reads
 use Rattle.endpoint.proofs.routes.wire.Goals as goal
 
 pub returns-then-t-ne-COUNT : goal.returns-then-t-ne-COUNT
 returns-then-t-ne-COUNT c = λ r.
     let a = c.args in
-    closed-wire ((lent c.args.w.now c.args.h.now c.args.b.now)) r a.t.now (ne_eqb _ _ c.if-t-ne-COUNT.true) a.p.now a.out.now
+    closed-wire (lent c.args.w.now c.args.h.now c.args.b.now) r a.t.now (ne_eqb _ _ c.if-t-ne-COUNT.true) a.p.now a.out.now
 
 pub returns : goal.returns
 returns c = λ r.
     let a = c.args in
     rw c.sent-outcome.ensures
-    (wired a.t.now _ (eq-eqb _ _ c.if-t-ne-COUNT.false) c.count_in.ensures.0 ((lent c.args.w.now c.args.h.now c.args.b.now))
+    (wired a.t.now _ (eq-eqb _ _ c.if-t-ne-COUNT.false) c.count_in.ensures.0 (lent c.args.w.now c.args.h.now c.args.b.now)
     _ r
     c.send-o.result a.p.now a.out.now _
     (c.count_in.ensures.1

@@ -1,8 +1,6 @@
 use mathlib.Core.Path.{◌∙◌, sym, ap}
 use Rattle.iarwennol.specs.PackedLaws.{packed-refused}
 use Rattle.iarwennol.specs.Packed.{sent_packed}
-use Rattle.iarwennol.proofs.pack.accepted.Reads as accepted-reads
-use Rattle.iarwennol.proofs.pack.number_of.Reads as number-of-reads
 use Rattle.iarwennol.proofs.pack.pack_sent.Goals as goal
 
 pub returns-in-Accepted : goal.returns-in-Accepted

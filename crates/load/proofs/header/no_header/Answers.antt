@@ -1,4 +1,3 @@
-use Rattle.packet.proofs.csrc.no_list.Reads as no-list-reads
 use Rattle.load.proofs.header.no_header.Goals as goal
 
 pub returns : goal.returns

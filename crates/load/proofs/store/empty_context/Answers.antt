@@ -1,5 +1,4 @@
 use Rattle.context.specs.Sound.{empty_decompressor}
-use Rattle.packet.proofs.csrc.no_list.Reads as no-list-reads
 use Rattle.load.proofs.store.empty_context.Goals as goal
 
 pub returns : goal.returns

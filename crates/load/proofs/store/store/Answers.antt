@@ -6,19 +6,14 @@ use native.Mathlib.Omega.{arith}
 use borrow.Author.Rules.{rules}
 use Rattle.settings.specs.declared.Settings.{Settings}
 use Rattle.context.proofs.Arrays.{length-mapped}
-use Rattle.planes.specs.Planes.{Lent, lent}
+use Rattle.planes.specs.Planes.{lent}
 use Rattle.decompressor.specs.declared.table.Table.{Table}
 use Rattle.decompressor_table.specs.LayoutLaws.{fits-sizes, sized-true}
 use Rattle.load.specs.LoadLaws.{storing-more, storing-all}
-use Rattle.decompressor_table.proofs.write.put_context.Reads as put-context-reads
-use Rattle.decompressor_walk.proofs.open.put_empty.Reads as put-empty-reads
 use Rattle.load.proofs.store.store.Goals as goal
 
 abbrev given : Settings → List DecompressorContext → Table
 given s l = record { settings = s; contexts = l }
-
-abbrev handed : tie.Start invariant-loop decreases-loop → Lent
-handed s = lent s.args.w.now s.args.h.now s.args.b.now
 
 pub put_empty-requires : goal.put_empty-requires
 put_empty-requires c = c.requires
@@ -45,17 +40,17 @@ loop-i-preserved c =
     )
 
 pub shape_of-w : goal.shape_of-w
-shape_of-w c = (fits-sizes _ c.loop-i.invariant.2.fit).words ∙ sym (sized-true (handed c) c.requires).words
+shape_of-w c = (fits-sizes _ c.loop-i.invariant.2.fit).words ∙ sym (sized-true (lent c.args.w.now c.args.h.now c.args.b.now) c.requires).words
 
 pub shape_of-h : goal.shape_of-h
-shape_of-h c = (fits-sizes _ c.loop-i.invariant.2.fit).shorts ∙ sym (sized-true (handed c) c.requires).shorts
+shape_of-h c = (fits-sizes _ c.loop-i.invariant.2.fit).shorts ∙ sym (sized-true (lent c.args.w.now c.args.h.now c.args.b.now) c.requires).shorts
 
 pub shape_of-b : goal.shape_of-b
-shape_of-b c = (fits-sizes _ c.loop-i.invariant.2.fit).bytes ∙ sym (sized-true (handed c) c.requires).bytes
+shape_of-b c = (fits-sizes _ c.loop-i.invariant.2.fit).bytes ∙ sym (sized-true (lent c.args.w.now c.args.h.now c.args.b.now) c.requires).bytes
 
 pub returns : goal.returns
 returns c =
     let l = c.loop-i in
     let p = c.put_empty.ensures.1 in
     storing-all _ _ l.i _ (omega arith) l.invariant.0 l.invariant.2
-    ∙ ap (λ (t : Table). given t.settings c.args.t5) p
+    ∙ ap (λ (t : Table). given t.settings c.args.contexts) p

@@ -4,8 +4,6 @@ use lib.ListN.{length}
 use Rattle.planes.specs.Planes.{lent}
 use Rattle.decompressor_table.specs.Layout.{table_of}
 use Rattle.load.specs.LoadLaws.{Storing}
-use Rattle.decompressor_table.proofs.write.put_context.Reads as put-context-reads
-use Rattle.decompressor_walk.proofs.open.put_empty.Reads as put-empty-reads
 use Rattle.load.proofs.store.store.Given as goal
 
 abbrev pub invariant-loop-i : goal.invariant-loop-i

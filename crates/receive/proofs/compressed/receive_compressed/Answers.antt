@@ -25,7 +25,7 @@ number s g e = ap (λ (x : Got8). x.field.value) e
 pub bounds-b-833 : goal.bounds-b-833
 bounds-b-833 c = omega (
   arith,
-  (fits-sizes ((lent c.args.w.now c.args.h.now c.args.b.now)) c.requires.0).bytes,
+  (fits-sizes (lent c.args.w.now c.args.h.now c.args.b.now) c.requires.0).bytes,
 )
 
 pub returns-then-b-number : goal.returns-then-b-number
@@ -33,9 +33,9 @@ returns-then-b-number c =
     let a = c.args in
     let k = c.read_context-first in
     let n = number a.s.now k.result k.ensures in
-    gives-kept ((lent c.args.w.now c.args.h.now c.args.b.now)) _ a.out.now (receive_compressed a.old a.kind ((table_of ((lent c.args.w.now c.args.h.now c.args.b.now)))) a.s.now a.out.now)
-    (sym (compressed-unknown a.old a.kind ((table_of ((lent c.args.w.now c.args.h.now c.args.b.now)))) a.s.now a.out.now
-    (omega (arith, n, c.if-b-number.true, table_of-contexts ((lent c.args.w.now c.args.h.now c.args.b.now)) c.requires.0))))
+    gives-kept (lent c.args.w.now c.args.h.now c.args.b.now) _ a.out.now (receive_compressed a.old a.kind ((table_of (lent c.args.w.now c.args.h.now c.args.b.now))) a.s.now a.out.now)
+    (sym (compressed-unknown a.old a.kind ((table_of (lent c.args.w.now c.args.h.now c.args.b.now))) a.s.now a.out.now
+    (omega (arith, n, c.if-b-number.true, table_of-contexts (lent c.args.w.now c.args.h.now c.args.b.now) c.requires.0))))
 
 pub returns-then-not-is_accepted : goal.returns-then-not-is_accepted
 returns-then-not-is_accepted c =
@@ -44,29 +44,29 @@ returns-then-not-is_accepted c =
     let n = number a.s.now k.result k.ensures in
     let r = c.read_head-head.ensures.0 ∙ head_at-context a.s.now k.result k.ensures in
     let e = rw (c.is_accepted.ensures, r) at (not-true c.is_accepted.result c.if-not-is_accepted.true-raw) in
-    gives-kept ((lent c.args.w.now c.args.h.now c.args.b.now)) _ a.out.now (receive_compressed a.old a.kind ((table_of ((lent c.args.w.now c.args.h.now c.args.b.now)))) a.s.now a.out.now)
-    (sym (compressed-cut a.old a.kind ((table_of ((lent c.args.w.now c.args.h.now c.args.b.now)))) a.s.now a.out.now
-    (omega (arith, n, c.if-b-number.false, table_of-contexts ((lent c.args.w.now c.args.h.now c.args.b.now)) c.requires.0)) e))
+    gives-kept (lent c.args.w.now c.args.h.now c.args.b.now) _ a.out.now (receive_compressed a.old a.kind ((table_of (lent c.args.w.now c.args.h.now c.args.b.now))) a.s.now a.out.now)
+    (sym (compressed-cut a.old a.kind ((table_of (lent c.args.w.now c.args.h.now c.args.b.now))) a.s.now a.out.now
+    (omega (arith, n, c.if-b-number.false, table_of-contexts (lent c.args.w.now c.args.h.now c.args.b.now) c.requires.0)) e))
 
 pub overflow_cast-i : goal.overflow_cast-i
 overflow_cast-i c = (omega (
       arith,
       c.if-b-number.false,
-      sound-most ((table_of ((lent c.args.w.now c.args.h.now c.args.b.now)))) c.requires.1,
-      table_of-contexts ((lent c.args.w.now c.args.h.now c.args.b.now)) c.requires.0,
+      sound-most ((table_of (lent c.args.w.now c.args.h.now c.args.b.now))) c.requires.1,
+      table_of-contexts (lent c.args.w.now c.args.h.now c.args.b.now) c.requires.0,
     ))
 
 pub context_at-context-requires : goal.context_at-context-requires
 context_at-context-requires c =
-    let z = fits-sizes ((lent c.args.w.now c.args.h.now c.args.b.now)) c.requires.0 in (
+    let z = fits-sizes (lent c.args.w.now c.args.h.now c.args.b.now) c.requires.0 in (
       z.words,
       z.shorts,
       z.bytes,
       (omega (
         arith,
         c.if-b-number.false,
-        sound-most ((table_of ((lent c.args.w.now c.args.h.now c.args.b.now)))) c.requires.1,
-        table_of-contexts ((lent c.args.w.now c.args.h.now c.args.b.now)) c.requires.0,
+        sound-most ((table_of (lent c.args.w.now c.args.h.now c.args.b.now))) c.requires.1,
+        table_of-contexts (lent c.args.w.now c.args.h.now c.args.b.now) c.requires.0,
       )),
     )
 

@@ -14,31 +14,27 @@ use Rattle.decompressor.proofs.TableLaws.{sound-most}
 use Rattle.decompressor_table.specs.CallsLaws.{gives-kept}
 use Rattle.receive.specs.Taken.{accept_full}
 use Rattle.receive.proofs.Placing.{gives-full}
-use Rattle.decompress.proofs.full.fill.Reads as fill-reads
-use Rattle.decompressor_table.proofs.write.put_context.Reads as put-context-reads
-use Rattle.receive.proofs.output.put_packet.Reads as put-packet-reads
-use Rattle.refresh.proofs.fh.read_fh.Reads as read-fh-reads
 use Rattle.receive.proofs.full.accept_full.Goals as goal
 
 pub returns-then-out-size : goal.returns-then-out-size
 returns-then-out-size c =
     let a = c.args in
-    let e = length-full ((table_of ((lent c.args.w.now c.args.h.now c.args.b.now)))).settings.contexts a.s.now (AllBytes-elements a.s.now (λ i. (c.shared_slice_known-1.given i).fits)) c.requires.2 in
-    gives-kept ((lent c.args.w.now c.args.h.now c.args.b.now)) _ a.out.now (accept_full ((table_of ((lent c.args.w.now c.args.h.now c.args.b.now)))) a.s.now a.out.now)
-    (said-no_room ((table_of ((lent c.args.w.now c.args.h.now c.args.b.now)))) (full_table ((table_of ((lent c.args.w.now c.args.h.now c.args.b.now)))) (fh_of a.s.now))
+    let e = length-full ((table_of (lent c.args.w.now c.args.h.now c.args.b.now))).settings.contexts a.s.now (AllBytes-elements a.s.now (λ i. (c.shared_slice_known-1.given i).fits)) c.requires.2 in
+    gives-kept (lent c.args.w.now c.args.h.now c.args.b.now) _ a.out.now (accept_full ((table_of (lent c.args.w.now c.args.h.now c.args.b.now))) a.s.now a.out.now)
+    (said-no_room ((table_of (lent c.args.w.now c.args.h.now c.args.b.now))) (full_table ((table_of (lent c.args.w.now c.args.h.now c.args.b.now))) (fh_of a.s.now))
     (packet_of (fh_of a.s.now).header (drop (fh_of a.s.now).start a.s.now)) a.out.now (rw (← e) c.if-out-size.true))
 
 pub read_fh-full-requires : goal.read_fh-full-requires
-read_fh-full-requires c = (fh_judged-good ((table_of ((lent c.args.w.now c.args.h.now c.args.b.now)))).settings.contexts
+read_fh-full-requires c = (fh_judged-good ((table_of (lent c.args.w.now c.args.h.now c.args.b.now))).settings.contexts
     c.args.s.now c.requires.2).whole
 
 pub slice_bounds-put_packet-count : goal.slice_bounds-put_packet-count
 slice_bounds-put_packet-count c = rw c.read_fh-full.ensures
-    (fh_of-within c.args.s.now ((table_of ((lent c.args.w.now c.args.h.now c.args.b.now)))).settings.contexts c.requires.2)
+    (fh_of-within c.args.s.now ((table_of (lent c.args.w.now c.args.h.now c.args.b.now))).settings.contexts c.requires.2)
 
 pub slice_bounds-put_packet-start : goal.slice_bounds-put_packet-start
 slice_bounds-put_packet-start c = rw c.read_fh-full.ensures
-    (fh_of-within c.args.s.now ((table_of ((lent c.args.w.now c.args.h.now c.args.b.now)))).settings.contexts c.requires.2)
+    (fh_of-within c.args.s.now ((table_of (lent c.args.w.now c.args.h.now c.args.b.now))).settings.contexts c.requires.2)
 
 pub put_packet-requires : goal.put_packet-requires
 put_packet-requires c =
@@ -47,7 +43,7 @@ put_packet-requires c =
     ).fits)) in
     rw (c.read_fh-full.ensures, part-rest a.s.now (fh_of a.s.now).start) (
       range-narrow (fh_of-range a.s.now b),
-      full_size ((table_of ((lent c.args.w.now c.args.h.now c.args.b.now)))).settings.contexts a.s.now b c.requires.2,
+      full_size ((table_of (lent c.args.w.now c.args.h.now c.args.b.now))).settings.contexts a.s.now b c.requires.2,
       c.requires.3,
       c.if-out-size.false,
     )
@@ -57,7 +53,7 @@ put_context-requires c =
     let a = c.args in (
       c.requires.0,
       rw c.read_fh-full.ensures
-          (omega (arith, fh_of-context a.s.now ((table_of ((lent c.args.w.now c.args.h.now c.args.b.now)))).settings.contexts c.requires.2, sound-most ((table_of ((lent c.args.w.now c.args.h.now c.args.b.now)))) c.requires.1)),
+          (omega (arith, fh_of-context a.s.now ((table_of (lent c.args.w.now c.args.h.now c.args.b.now))).settings.contexts c.requires.2, sound-most ((table_of (lent c.args.w.now c.args.h.now c.args.b.now))) c.requires.1)),
     )
 
 pub returns : goal.returns
@@ -65,18 +61,18 @@ returns c =
     let a = c.args in
     let b = (AllBytes-elements a.s.now (λ i. (c.shared_slice_known-1.given i
     ).fits)) in
-    let e = length-full ((table_of ((lent c.args.w.now c.args.h.now c.args.b.now)))).settings.contexts a.s.now b c.requires.2 in
+    let e = length-full ((table_of (lent c.args.w.now c.args.h.now c.args.b.now))).settings.contexts a.s.now b c.requires.2 in
     let w = rw (
       c.read_fh-full.ensures,
       part-rest a.s.now (fh_of a.s.now).start,
     ) at
     c.put_packet.ensures in
-    gives-full ((lent c.args.w.now c.args.h.now c.args.b.now)) _ c.read_fh-full.result.context (length a.s.now) c.fill-context.result _
-    (accept_full ((table_of ((lent c.args.w.now c.args.h.now c.args.b.now)))) a.s.now a.out.now) c.put_context.ensures
+    gives-full (lent c.args.w.now c.args.h.now c.args.b.now) _ c.read_fh-full.result.context (length a.s.now) c.fill-context.result _
+    (accept_full ((table_of (lent c.args.w.now c.args.h.now c.args.b.now))) a.s.now a.out.now) c.put_context.ensures
     (rw (
       c.fill-context.ensures,
       c.read_fh-full.ensures,
     )
-    (said-accepted ((table_of ((lent c.args.w.now c.args.h.now c.args.b.now)))) (full_table ((table_of ((lent c.args.w.now c.args.h.now c.args.b.now)))) (fh_of a.s.now))
+    (said-accepted ((table_of (lent c.args.w.now c.args.h.now c.args.b.now))) (full_table ((table_of (lent c.args.w.now c.args.h.now c.args.b.now))) (fh_of a.s.now))
     (packet_of (fh_of a.s.now).header (drop (fh_of a.s.now).start a.s.now)) a.out.now _ _
     (rw (← e) c.if-out-size.false) e (wrote-front w (rw (← e) c.if-out-size.false))))

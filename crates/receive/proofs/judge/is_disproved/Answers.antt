@@ -5,7 +5,7 @@ use Rattle.receive.proofs.judge.is_disproved.Goals as goal
 pub returns-then-reads_checksum-g : goal.returns-then-reads_checksum-g
 returns-then-reads_checksum-g c =
     let a = c.args in
-    let fields = c.well-formed.1.1.0.1.1 in
+    let fields = c.well_formed.1.1.0.1.1 in
     let small = fields.1.1.1.1.1.0.1 in
     let j = rw c.reads_checksum.ensures at c.if-reads_checksum-g.true in
     rw c.udp_checksum.ensures

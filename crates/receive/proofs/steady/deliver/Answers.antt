@@ -17,6 +17,6 @@ put_bare_packet-requires c =
 pub returns : goal.returns
 returns c =
     let a = c.args in
-    gives-delivered a.c a.sent c.requires.4 ((lent c.args.w.now c.args.h.now c.args.b.now)) _ a.i a.rest.now a.out.now _ _
+    gives-delivered a.c a.sent c.requires.4 (lent c.args.w.now c.args.h.now c.args.b.now) _ a.i a.rest.now a.out.now _ _
     c.rebuild-header.result c.rebuild-header.ensures c.requires.6 c.put_moved.ensures
     c.put_bare_packet.ensures
