@@ -1,10 +1,10 @@
 ghost use Rattle.std.specs.Prelude.{◌≡◌, ◌≤◌, length};
 ghost use Rattle.packet.specs.Ranges.{Narrow};
 
-use octets::put::put16;
 use headers_write::checksum::ip_checksum;
 use headers_write::udp::udp_checksum;
 use headers_write::write::put_header;
+use octets::put::put16;
 use packet::csrc::Csrc;
 use packet::header::{Flow, Header, Ip, Rtp};
 

@@ -3,11 +3,11 @@ ghost use Rattle.octets.specs.Put.{Wrote};
 ghost use Rattle.compressor_steady.specs.Steady.{steady_step};
 ghost use Rattle.outgoing.specs.Outgoing.{link_bytes};
 
-use octets::flags::Flags;
-use octets::put::put16_if;
 use compress::send::sends_checksum;
 use context::compressor::CompressorContext;
 use links_write::head::put_head;
+use octets::flags::Flags;
+use octets::put::put16_if;
 use packet::header::Header;
 
 // What goes out before the rest of a steady packet: the head of a CR, and the UDP checksum where there is one.

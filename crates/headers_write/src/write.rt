@@ -7,8 +7,8 @@ ghost use Rattle.packet.specs.Ranges.{Narrow};
 use crate::checksum::ip_checksum;
 use crate::ip::{put_ip_back, put_ip_front};
 use crate::rtp::{pack_first, pack_second};
-use octets::put::{put_list, put8, put16, put32};
 use headers::rtp::{RtpFirst, RtpSecond};
+use octets::put::{put_list, put8, put16, put32};
 use packet::header::Header;
 
 pub fn put_udp(out: &mut [u8], at: usize, h: Header, size: u16) -> usize

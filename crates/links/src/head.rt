@@ -1,5 +1,5 @@
-use octets::flags::Flags;
 use fields::place::Place;
+use octets::flags::Flags;
 use packet::parts::Parts;
 
 // The flag byte of a CU or CR, and the place past it.

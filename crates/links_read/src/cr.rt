@@ -1,12 +1,12 @@
 ghost use Rattle.std.specs.Prelude.{◌≡◌, ◌<◌};
 ghost use Rattle.links.specs.Cr.{cr_flags_of, second_of, deltas_of, cr_of};
 
-use octets::flags::{Flags, split};
 use fields::list::next_list;
 use fields::next::{next_byte, next_delta16, next_delta32, next_word};
 use fields::place::Place;
 use links::cr::{CrFlags, Deltas, Second};
 use links::head::ReadParts;
+use octets::flags::{Flags, split};
 use packet::parts::Parts;
 use packet::sent::{Sent8, Sent16, Sent32};
 

@@ -2,12 +2,12 @@ ghost use Rattle.std.specs.Prelude.{◌≡◌, ◌<◌};
 ghost use Rattle.octets.specs.Flags.{flags_of};
 ghost use Rattle.links.specs.Cu.{cu_flags_of, cu_second_of, changes_of, values_of, cu_of};
 
-use octets::flags::{Flags, split};
 use fields::list::next_list;
 use fields::next::{next_byte, next_delta16, next_delta32, next_long, next_payload, next_word};
 use fields::place::Place;
 use links::cu::{Changes, CuFlags, CuSecond, Values};
 use links::head::ReadParts;
+use octets::flags::{Flags, split};
 use packet::parts::Parts;
 use packet::sent::Sent16;
 

@@ -1,11 +1,11 @@
 ghost use Rattle.std.specs.Prelude.{◌≡◌, ◌<◌};
 ghost use Rattle.links.specs.Head.{context_field, head_at};
 
-use octets::flags::split;
 use codes::cursor::Cursor;
 use fields::next::next_byte;
 use fields::place::{Got8, Place};
 use links::head::Head;
+use octets::flags::split;
 use packet::refusal::Verdict;
 
 // The context number, which is the first field, and the place past it.

@@ -2,12 +2,12 @@ ghost use Rattle.std.specs.Prelude.{◌≡◌};
 ghost use Rattle.links.specs.Whole.{fixed_of, rtp_of, whole_of};
 
 use crate::cu::{read_changes, split_flags};
-use octets::flags::Flags;
 use fields::list::next_list;
 use fields::next::{next_byte, next_long, next_version, next_word};
 use fields::place::Place;
 use headers_read::rtp::{split_first, split_second};
 use links::whole::{Fixed, GotRtp, ReadWhole};
+use octets::flags::Flags;
 use packet::header::{Rtp, RtpHeader};
 use packet::parts::Parts;
 use packet::sent::{Sent8, Sent16, Sent32};

@@ -6,9 +6,9 @@ ghost use Rattle.links_write.specs.Size.{deltas_size, cr_size};
 
 use crate::delta::{delta16_size, delta32_size, put_delta16, put_delta32, size_if};
 use crate::head::put_head;
+use links::cr::CrFlags;
 use octets::flags::{Flags, pack};
 use octets::put::{put_list, put8_if, put16_if};
-use links::cr::CrFlags;
 use packet::parts::Parts;
 
 // The bits of a flag byte in their places.

@@ -6,9 +6,9 @@ ghost use Rattle.links_write.specs.Size.{changes_size, values_size, cu_size};
 
 use crate::delta::{delta16_size, delta32_size, put_delta16, put_delta32, size_if};
 use crate::head::put_head;
+use links::cu::{CuFlags, CuSecond};
 use octets::flags::{Flags, pack};
 use octets::put::{put_list, put8, put8_if, put16_if, put32_if};
-use links::cu::{CuFlags, CuSecond};
 use packet::parts::Parts;
 
 // The bits of the two flag bytes in their places.

@@ -2,8 +2,8 @@ ghost use Rattle.std.specs.Prelude.{◌≡◌, cond, ◌≤◌, ◌+◌, length}
 ghost use Rattle.octets.specs.Put.{Wrote};
 ghost use Rattle.links.specs.Sent.{delta16, delta32};
 
-use octets::put::{code_size, put_code_if};
 use codes::code::{code16, code32};
+use octets::put::{code_size, put_code_if};
 use packet::sent::{Sent16, Sent32};
 
 pub fn size_if(wanted: bool, n: usize) -> usize

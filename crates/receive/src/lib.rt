@@ -25,10 +25,10 @@ ghost use Rattle.receive.specs.Taken.{GivenPlain};
 
 use crate::compressed::receive_compressed;
 use crate::full::receive_full;
-use octets::put::put_all;
 use decompressor::answer::Outcome;
 use decompressor::old::OldForm;
 use decompressor_walk::sound::sound;
+use octets::put::put_all;
 use packet::refusal::Refusal;
 use settings::Settings;
 

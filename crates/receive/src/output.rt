@@ -4,9 +4,9 @@ ghost use Rattle.headers.specs.Header.{header_size};
 ghost use Rattle.packet.specs.Ranges.{Narrow};
 ghost use Rattle.decompressor.specs.Receive.{packet_of};
 
-use octets::put::put_all;
 use headers_read::read::header_size;
 use headers_write::write::{put_bare, put_printed};
+use octets::put::put_all;
 use packet::header::Header;
 
 // How long the packet is that has this header and this rest.

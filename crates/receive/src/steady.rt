@@ -9,7 +9,6 @@ ghost use Rattle.receive.specs.Taken.{Found};
 ghost use Rattle.receive.specs.Steady.{is_steady, Steadily, delivered_on};
 
 use crate::output::put_bare_packet;
-use octets::flags::Flags;
 use context::decompressor::DecompressorContext;
 use decompress::header::{reads_checksum, rebuild};
 use decompressor::answer::Outcome;
@@ -17,6 +16,7 @@ use decompressor_steady::step::{is_next, step_on};
 use decompressor_steady::store::put_moved;
 use fields::next::next_word;
 use links::head::Head;
+use octets::flags::Flags;
 use packet::refusal::is_accepted;
 use settings::Settings;
 

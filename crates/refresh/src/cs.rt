@@ -5,9 +5,9 @@ ghost use Rattle.packet.specs.Refusal.{verdict_number};
 ghost use Rattle.links.specs.Cs.{record_flags_of, record_flags_bits, record_bytes};
 ghost use Rattle.links.specs.Cs.{record_count, record_context, record_asks, record_judged, records_judged, request_judged};
 
+use links::cs::RecordFlags;
 use octets::flags::{Flags, pack, split};
 use octets::put::put8;
-use links::cs::RecordFlags;
 use packet::refusal::{Refusal, Verdict};
 
 fn index(byte: u8) -> usize

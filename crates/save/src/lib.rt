@@ -15,11 +15,11 @@ ghost use Rattle.decompressor_table.specs.Layout.{table_of};
 ghost use Rattle.saves.specs.Saves.{front_bytes, records_bytes, save_of};
 
 use crate::record::{put_record, record_size};
-use octets::put::{put8, put16};
 use decompressor::answer::Outcome;
 use decompressor_table::layout::Layout;
 use decompressor_table::read::context_at;
 use decompressor_walk::sound::sound;
+use octets::put::{put8, put16};
 use packet::refusal::Refusal;
 use saves::layout::VERSION;
 use settings::Settings;

@@ -4,11 +4,11 @@ ghost use Rattle.context.specs.Sound.{sound_decompressor};
 ghost use Rattle.packet.specs.Ranges.{Narrow};
 ghost use Rattle.saves.specs.Saves.{kept, header_part, used_bytes, record_bytes};
 
-use octets::put::{put8, put16, put32};
 use context::decompressor::{DecompressorContext, Status};
 use decompress::header::rebuild;
 use headers_read::read::{header_size, size_with};
 use headers_write::write::put_header;
+use octets::put::{put8, put16, put32};
 use saves::layout::{BROKEN, EMPTY, LIVE};
 
 // How many bytes the record of a context in use has, be it live or broken.

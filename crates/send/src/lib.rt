@@ -17,7 +17,6 @@ ghost use Rattle.compressor_table.specs.Layout.{context_in, table_of, Fits};
 ghost use Rattle.compressor_table.specs.Calls.{Gives};
 ghost use Rattle.send.specs.Plain.{GoesPlain};
 
-use octets::put::put_all;
 use compressor::answer::Outcome;
 use compressor::lookup::Found;
 use compressor_places::lookup::find;
@@ -31,6 +30,7 @@ use compressor_walk::sound::sound;
 use context::compressor::CompressorContext;
 use headers_read::form::is_compressible;
 use headers_read::read::{header_size, header_with, read_rtp_list};
+use octets::put::put_all;
 use outgoing::link::{kind_number, link_size, put_link};
 use outgoing::step::step_on;
 use packet::header::Header;

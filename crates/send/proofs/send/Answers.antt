@@ -55,13 +55,12 @@ header_with-header-requires c =
     (omega (arith, k.enough, k.list), c.read_rtp_list-list.ensures)
 
 pub find-requires : goal.find-requires
-find-requires c =
-    (
-      sound-fits (lent c.args.w.now c.args.h.now c.args.b.now) (sym c.sound.ensures ∙
-          not-false _ c.if-not-sound.false-raw),
-      sound-most ((table_of (lent c.args.w.now c.args.h.now c.args.b.now)))
-          (sound_of-true ((table_of (lent c.args.w.now c.args.h.now c.args.b.now))) (sym c.sound.ensures ∙ not-false _ c.if-not-sound.false-raw)),
-    )
+find-requires c = (
+  sound-fits (lent c.args.w.now c.args.h.now c.args.b.now) (sym c.sound.ensures ∙
+      not-false _ c.if-not-sound.false-raw),
+  sound-most ((table_of (lent c.args.w.now c.args.h.now c.args.b.now)))
+      (sound_of-true ((table_of (lent c.args.w.now c.args.h.now c.args.b.now))) (sym c.sound.ensures ∙ not-false _ c.if-not-sound.false-raw)),
+)
 
 pub send_on-requires : goal.send_on-requires
 send_on-requires c =

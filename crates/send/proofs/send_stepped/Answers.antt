@@ -115,11 +115,10 @@ put_all-length-requires c =
     omega (arith, length_rest a.p.now f.result, c.if-out-size.false, w)
 
 pub put_context-requires : goal.put_context-requires
-put_context-requires c =
-    (
-      c.requires.0,
-      c.requires.1.place,
-    )
+put_context-requires c = (
+  c.requires.0,
+  c.requires.1.place,
+)
 
 pub returns : goal.returns
 returns c =

@@ -50,11 +50,11 @@ returns-then-not-is_accepted c =
 
 pub overflow_cast-i : goal.overflow_cast-i
 overflow_cast-i c = (omega (
-      arith,
-      c.if-b-number.false,
-      sound-most ((table_of (lent c.args.w.now c.args.h.now c.args.b.now))) c.requires.1,
-      table_of-contexts (lent c.args.w.now c.args.h.now c.args.b.now) c.requires.0,
-    ))
+  arith,
+  c.if-b-number.false,
+  sound-most ((table_of (lent c.args.w.now c.args.h.now c.args.b.now))) c.requires.1,
+  table_of-contexts (lent c.args.w.now c.args.h.now c.args.b.now) c.requires.0,
+))
 
 pub context_at-context-requires : goal.context_at-context-requires
 context_at-context-requires c =
