@@ -1,14 +1,13 @@
 -- Iarwennol. Laws of the cursor's answers: a law for each size and row of a code, once over the modulus m. Assume nothing.
 -- Used by the proofs of the cursor (by tests on the bytes) and by the round trips (by what is left from a place on).
-use Rattle.std.specs.Prelude.{◌≡◌, ℕ, ◌+◌, ◌-◌, ◌*◌, ◌/◌, ◌%◌, ◌<◌, ◌≤◌, Bool, true, false, cond, not, ◌&&◌, List, [], ◌∷◌, ◌++◌, length, nat_lt, refl}
-use Rattle.std.proofs.Common.{sym, ap, ◌∙◌, add-zero, zero-add, arith, length-drop, get_or-drop, drop-drop}
+use Rattle.std.specs.Prelude.{◌≡◌, ℕ, ◌+◌, ◌-◌, ◌%◌, ◌<◌, ◌≤◌, Bool, true, false, not, List, length, nat_lt, refl}
+use Rattle.std.proofs.Common.{sym, ◌∙◌, arith}
 use borrow.Author.Tests.{lt-ltb, le-ltb, lt-leb, le-leb, ltb-true, ltb-false, leb-true, leb-false, not-true, not-false}
 use Rattle.std.proofs.Math.ListN.{get_or-eq_default}
-use Rattle.codes.specs.Bytes.{big_endian}
-use Rattle.codes.specs.Code.{rows, among}
+use Rattle.codes.specs.Code.{rows}
 use Rattle.codes.specs.CodeLaws.{among_in, among_below, among-above}
-use Rattle.codes.specs.Reading.{Reading, accepted, refused, has, byte_at, word_at, triple_at, long_at}
-use Rattle.codes.specs.Reading.{field_at, read_byte, read_word, read_long, value_in, code_at, read_by}
+use Rattle.codes.specs.Reading.{accepted, refused, has, byte_at, word_at, triple_at}
+use Rattle.codes.specs.Reading.{field_at, value_in, code_at, read_by}
 
 ---- has: what a test of it tells
 

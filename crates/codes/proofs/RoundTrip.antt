@@ -1,6 +1,6 @@
 -- Iarwennol. What was written is read back: numbers, and codes in all five rows, once over the width. Assumes nothing.
 -- A reading is about what is left from a place on: `drop at s ≡ written ++ rest`. Used by the round trips of the layouts (links).
-use Rattle.std.specs.Prelude.{◌≡◌, ℕ, ◌+◌, ◌-◌, ◌*◌, ◌/◌, ◌%◌, ◌^◌, ◌<◌, ◌≤◌, Bool, true, false, ◌||◌, List, [], ◌∷◌, ◌++◌, length, drop, nat_le, nat_lt, slice_index}
+use Rattle.std.specs.Prelude.{◌≡◌, ℕ, ◌+◌, ◌-◌, ◌*◌, ◌^◌, ◌<◌, ◌≤◌, Bool, true, false, ◌||◌, List, ◌∷◌, ◌++◌, length, drop, nat_le, nat_lt, slice_index}
 use Rattle.std.proofs.Math.Path.{refl}
 use Rattle.std.proofs.Common.{sym, ap, ◌∙◌, add-zero, mod-eq_of_lt, lt-ltb, ltb-true, ltb-false, leb-true, leb-false, length-drop, get_or-drop, drop-drop}
 use native.Mathlib.Omega.{arith}

@@ -1,6 +1,6 @@
 -- Iarwennol. Laws of lists of bytes. Assume nothing.
 -- Used wherever an output is shown to consist of bytes.
-use Rattle.std.specs.Prelude.{◌≡◌, ℕ, zero, suc, ◌+◌, ◌/◌, ◌%◌, ◌<◌, true, List, [], ◌∷◌, ◌++◌, length, nat_lt, slice_index, refl}
+use Rattle.std.specs.Prelude.{◌≡◌, ℕ, zero, suc, ◌/◌, ◌<◌, true, List, [], ◌∷◌, ◌++◌, length, nat_lt, slice_index, refl}
 use Rattle.std.proofs.Math.Bool.{and-eq-true_iff}
 use Rattle.std.proofs.Common.{add-one, arith, ltb-true, length-append}
 use Rattle.codes.specs.Bytes.{AllBytes, none, more, are_bytes, big_endian}

@@ -1,6 +1,6 @@
 -- Iarwennol. Laws of differences, each once over the width. Assume nothing.
 -- Used by the relation between the two ends (context).
-use Rattle.std.specs.Prelude.{◌≡◌, ℕ, ◌+◌, ◌-◌, ◌%◌, ◌^◌, ◌<◌}
+use Rattle.std.specs.Prelude.{◌≡◌, ℕ, ◌+◌, ◌-◌, ◌^◌, ◌<◌}
 use Rattle.std.proofs.Math.Nat.{add-mod-mod, add-mod_right}
 use Rattle.std.proofs.Common.{mod-eq_of_lt}
 use native.Mathlib.Omega.{arith}

@@ -1,7 +1,7 @@
 -- Iarwennol. Laws of the CSRC list. Assume nothing.
 -- Used by the proof of same_words, and by the relation (context), where equal answers must mean equal lists.
 use Rattle.std.specs.Prelude.{ℕ, ◌+◌, ◌<◌, ◌≤◌, ◌≡◌, refl, Bool, true, ◌&&◌, List, [], ◌∷◌, eqb, length, get_or, drop}
-use Rattle.std.proofs.Common.{ap, add-one, eqb-true, eq-eqb, drop_of_length-le, drop-cons}
+use Rattle.std.proofs.Common.{add-one, eqb-true, eq-eqb, drop_of_length-le, drop-cons}
 use Rattle.std.proofs.Math.Bool.{and-true, and_assoc, and-eq-true_iff}
 use Rattle.packet.specs.Csrc.{same, same_list}
 use Rattle.packet.specs.declared.csrc.Csrc.{Csrc}

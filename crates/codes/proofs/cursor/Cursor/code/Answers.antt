@@ -1,5 +1,5 @@
 use Rattle.codes.proofs.ReadingLaws.{read_by-none, read_by-one, read_by-two, read_by-three, read_by-cut, read_by-cut-three}
-use Rattle.std.proofs.Common.{◌+◌, ◌-◌, ◌*◌, sym, ◌∙◌, arith}
+use Rattle.std.proofs.Common.{◌+◌, ◌*◌, sym, ◌∙◌, arith}
 use Rattle.codes.proofs.cursor.Cursor.code.Goals as goal
 
 pub returns-then-s-at : goal.returns-then-s-at
