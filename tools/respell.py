@@ -60,6 +60,8 @@ def main():
 
     def new(match):
         word, text, end = match.group(0), match.string, match.end()
+        if word in ('dI', 'dT'):  # flags of a link packet, in comments
+            return word
         capital = word[0].upper() + word[1:]
         in_name = text[end:end + 1] == '-' and text[end + 1:end + 2].isalpha() or text[match.start() - 1:match.start()] == '-'
         if in_name and capital in facts and word not in defined:

@@ -153,18 +153,18 @@ pub record Rebuilding : Type 0 where
 
 -- rule 7.7: a CU without F, where the deltas were 3 and 160
 pub record Replacing : Type 0 where
-  -- without d_t: the timestamp is that of the RTP header, and stands still from then on, over a gap too
+  -- without dT: the timestamp is that of the RTP header, and stands still from then on, over a gap too
   pub unsent : (replaced none16 none32).rtp.timestamp ≡ 500
   pub unsent-stands : timestamp_at 3 (replaced none16 none32) ≡ 500
   pub unsent-gap : timestamp_at 5 (replaced none16 none32) ≡ 500
   pub unsent-deltas : (replaced none16 none32).deltas ≡ record { id = 3; timestamp = 0 }
-  -- with d_t: it goes on by the difference that came, here 80
+  -- with dT: it goes on by the difference that came, here 80
   pub sent : (replaced none16 (sent_if32 true 80)).rtp.timestamp ≡ 500
   pub sent-goes : timestamp_at 3 (replaced none16 (sent_if32 true 80)) ≡ 580
   pub sent-deltas : (replaced none16 (sent_if32 true 80)).deltas ≡ record { id = 3; timestamp = 80 }
-  -- with d_i alone: that says nothing of the timestamp
+  -- with dI alone: that says nothing of the timestamp
   pub sent-id : (replaced (sent_if16 true 7) none32).deltas ≡ record { id = 7; timestamp = 0 }
-  -- with F and without d_t the delta stays, whether the timestamp comes whole or not
+  -- with F and without dT the delta stays, whether the timestamp comes whole or not
   pub values-goes : timestamp_at 3 (paced_on (sent_if32 true 500)) ≡ 660
   pub values-unsent : timestamp_at 3 (paced_on none32) ≡ 490
   -- rule 3.1: a gap of 4 is refused, and leaves all but the status

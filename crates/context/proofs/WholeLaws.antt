@@ -36,7 +36,7 @@ module _ (g q : ℕ) (c : DecompressorContext) (p : Parts) (w : RtpHeader) where
   unfolding advanced_whole deltas_held
   whole-delta = refl
 
-  -- without d_t the timestamp stands still from then on
+  -- without dT the timestamp stands still from then on
   pub whole-still : p.dts.sent ≡ false → (advanced_whole g q c p w).deltas.timestamp ≡ 0
   whole-still e = whole-delta ∙ ap (λ (b : Bool). cond b p.dts.value 0) e
 

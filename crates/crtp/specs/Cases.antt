@@ -122,14 +122,14 @@ cases =
     (1 ∷ 1 ∷ 1 ∷ [])
     (voice 7 0 0x1234 0x148E 0x00 4 40)
     (link 2 (0x00 ∷ 0xE3 ∷ 0x20 ∷ 0x0A ∷ 0x12 ∷ 0x34 ∷ 0x00 ∷ 0x00 ∷ 0x00 ∷ 0x28 ∷ 0xAB ∷ []))
-    -- rule 11.3: a CU without F and d_t, whose RTP header has sequence 5 and timestamp 20; then a CR, and one after two losses
+    -- rule 11.3: a CU without F and dT, whose RTP header has sequence 5 and timestamp 20; then a CR, and one after two losses
     ∷ paced (arrival 2 (0x00 ∷ 0x02 ∷ rtp 5 20) (voice 7 0 3 0x26BF 0x00 5 20)
     ∷ arrival 3 (0x00 ∷ 0x03 ∷ 0xAB ∷ []) (voice 7 0 4 0x26BE 0x00 6 20)
     ∷ arrival 3 (0x00 ∷ 0x06 ∷ 0xAB ∷ []) (voice 7 0 7 0x26BB 0x00 9 20) ∷ [])
     -- rule 11.3: the same CU with a difference of 80; then a CR
     ∷ paced (arrival 2 (0x00 ∷ 0x22 ∷ 0x50 ∷ rtp 5 20) (voice 7 0 3 0x26BF 0x00 5 20)
     ∷ arrival 3 (0x00 ∷ 0x03 ∷ 0xAB ∷ []) (voice 7 0 4 0x26BE 0x00 6 100) ∷ [])
-    -- rule 11.3: a CU with F and without d_t that brings the timestamp 20; then a CR
+    -- rule 11.3: a CU with F and without dT that brings the timestamp 20; then a CR
     ∷ paced (arrival 2 (0x00 ∷ 0x82 ∷ 0x20 ∷ 0x00 ∷ 0x00 ∷ 0x00 ∷ 0x14 ∷ 0xAB ∷ []) (voice 7 0 3 0x26BF 0x00 3 20)
     ∷ arrival 3 (0x00 ∷ 0x03 ∷ 0xAB ∷ []) (voice 7 0 4 0x26BE 0x00 4 180) ∷ [])
     ∷ [])

@@ -22,7 +22,7 @@ use Rattle.links.specs.Head.{head_bytes}
 
 ---- the flag bytes, both ways
 
--- rule 6.3: F, I, d_t, d_i; the number is the link sequence
+-- rule 6.3: F, I, dT, dI; the number is the link sequence
 abbrev pub cu_flags_of : Flags → CuFlags
 cu_flags_of f = record { values = f.bit7; id = f.bit6; dts = f.bit5; did = f.bit4 }
 
@@ -72,7 +72,7 @@ cu_bytes context link carried h =
 
 ---- reader
 
--- rule 6.3: the UDP checksum where it is carried, the differences of the ID if d_i, of the timestamp if d_t, the ID if I
+-- rule 6.3: the UDP checksum where it is carried, the differences of the ID if dI, of the timestamp if dT, the ID if I
 unfoldable pub changes_of : List ℕ → Place → CuFlags → (carried : Bool) → Changes
 changes_of s p f carried =
     let checksum : Got16 = next_word s p carried in

@@ -2,7 +2,7 @@ use fields::place::Place;
 use packet::csrc::Csrc;
 use packet::sent::{Sent8, Sent16, Sent32};
 
-// The flags of a CU's flag byte: F, I, d_t, d_i. The byte's number is the link sequence.
+// The flags of a CU's flag byte: F, I, dT, dI. The byte's number is the link sequence.
 //
 // values: the RTP part consists of the second byte and the fields it names, not of a whole RTP header.
 // The others say which fields are sent: the ID, the differences of timestamp and of ID.
