@@ -98,7 +98,7 @@ loop-i-preserved c =
       ),
       acted-more (lent a.w.now a.h.now a.b.now) (lent l.w l.h l.b) _ a.s.now l.i
           c.record_context-place.result c.record_asks-asks.result
-          c.context_at-context.result c.act_on-asked.result c.requires.0 l.inv.1
+          c.context_at-context.result c.act_on-asked.result c.requires.0 l.invariant.1
           (omega (
             arith,
             c.requires.1.most,

@@ -9,14 +9,14 @@ pub bounds-b-832 : goal.bounds-b-832
 bounds-b-832 c = omega (
   arith,
   (sized-true (lent c.args.w.now c.args.h.now c.args.b.now) c.requires).bytes,
-  cleared-length c.args.b.now c.clear_bytes.new.0 c.clear_bytes.ensures,
+  cleared-length c.args.b.now c.clear_bytes.new.s c.clear_bytes.ensures,
 )
 
 pub bounds-b-833 : goal.bounds-b-833
 bounds-b-833 c = omega (
   arith,
   (sized-true (lent c.args.w.now c.args.h.now c.args.b.now) c.requires).bytes,
-  cleared-put c.args.b.now c.clear_bytes.new.0 832 c.args.s.repeats
+  cleared-put c.args.b.now c.clear_bytes.new.s 832 c.args.s.repeats
       c.clear_bytes.ensures,
 )
 

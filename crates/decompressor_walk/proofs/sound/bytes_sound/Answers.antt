@@ -9,7 +9,7 @@ pub loop-i-preserved : goal.loop-i-preserved
 loop-i-preserved c =
     let b = c.args.b.now in
     let l = c.loop-i in
-    (l.inv.0, omega arith, every_more (λ (j : ℕ). byte_test (row b j 0 13)) l.i l.ok l.inv.2)
+    (l.invariant.0, omega arith, every_more (λ (j : ℕ). byte_test (row b j 0 13)) l.i l.ok l.invariant.2)
 
 pub returns : goal.returns
 returns c =

@@ -50,5 +50,5 @@ returns c =
     let w = rw (b, c.if-is_disproved.false) at c.is_disproved.ensures in
     let p = rw b at c.put_packet.ensures in
     λ n. rebuild_to-accepted n a.g a.before a.c a.sent a.rest.now a.out.now c.packet_size-size.result
-    e.0 c.if-size-gt-LONGEST.false (sym w) e.1 c.put_packet.new.0
+    e.0 c.if-size-gt-LONGEST.false (sym w) e.1 c.put_packet.new.out
     c.if-out-size.false (wrote-front p (rw (← e.1) c.if-out-size.false))
