@@ -3,7 +3,8 @@
 -- P: a packet; L: what a send gives out; B: an output; Q: a request; F: what a save gives out; C, D: the tables of compressor and
 -- decompressor; SA, Ra: the answers of a send and of an arrival.
 -- Used by crtp, which names its two ends; the statement over bytes there can be read without this file.
-use Rattle.std.specs.Prelude.{◌≡◌, Bool, true, false, cond, not, List, [], ◌∷◌, ◌++◌, ℕ, suc, ◌≤◌, ◌<◌, ltb, eqb, length, get_or, replicate}
+use Rattle.std.specs.Prelude.{◌≡◌, Bool, true, false, cond, not, List, [], ◌∷◌, ◌++◌, ℕ, suc, ◌≤◌, ◌<◌, ltb, eqb, length, get_or}
+use Rattle.std.specs.Prelude.{replicate}
 use Rattle.std.proofs.Math.Option.{Option, none, some}
 use Rattle.std.proofs.Math.Seq.{slice}
 

@@ -1,6 +1,7 @@
 -- Iarwennol. Laws of the bytes of a packet and of the numbers that stand in them. Assume nothing.
 -- Used by the laws of the header, both ways, and of what is read from a link packet (fields).
-use Rattle.std.proofs.Common.{◌≡◌, ℕ, zero, suc, ◌+◌, ◌*◌, ◌/◌, ◌%◌, ◌^◌, ◌<◌, ◌≤◌, List, [], ◌∷◌, ◌++◌, length, take, drop, refl, ap, le_of_suc-le-suc, not-suc-le-zero, arith}
+use Rattle.std.proofs.Common.{◌≡◌, ℕ, zero, suc, ◌+◌, ◌*◌, ◌/◌, ◌%◌, ◌^◌, ◌<◌, ◌≤◌, List, [], ◌∷◌, ◌++◌, length, take, drop, refl}
+use Rattle.std.proofs.Common.{ap, le_of_suc-le-suc, not-suc-le-zero, arith}
 use Rattle.codes.specs.Bytes.{AllBytes, none, more, big_endian}
 use Rattle.codes.specs.Reading.{byte_at, word_at, long_at}
 
@@ -57,7 +58,8 @@ module _ {s : List ℕ} (a : AllBytes s) (at : ℕ) where
   pub big_endian-word_at : big_endian 2 (word_at s at) ≡ byte_at s at ∷ byte_at s (at + 1) ∷ []
   big_endian-word_at = big_endian-two (byte_at s at) (byte_at s (at + 1)) (AllBytes-byte_at a at) (AllBytes-byte_at a (at + 1))
 
-  pub big_endian-long_at : big_endian 4 (long_at s at) ≡ byte_at s at ∷ byte_at s (at + 1) ∷ byte_at s (at + 2) ∷ byte_at s (at + 3) ∷ []
+  pub big_endian-long_at : big_endian 4 (long_at s at) ≡ byte_at s at ∷ byte_at s (at + 1) ∷ byte_at s (at + 2) ∷ byte_at s
+      (at + 3) ∷ []
   big_endian-long_at =
       big_endian-four
       (byte_at s at)

@@ -1,8 +1,10 @@
 -- Iarwennol. What was written is read back: numbers, and codes in all five rows, once over the width. Assumes nothing.
 -- A reading is about what is left from a place on: `drop at s ≡ written ++ rest`. Used by the round trips of the layouts (links).
-use Rattle.std.specs.Prelude.{◌≡◌, ℕ, ◌+◌, ◌-◌, ◌*◌, ◌^◌, ◌<◌, ◌≤◌, Bool, true, false, ◌||◌, List, ◌∷◌, ◌++◌, length, drop, nat_le, nat_lt, slice_index}
+use Rattle.std.specs.Prelude.{◌≡◌, ℕ, ◌+◌, ◌-◌, ◌*◌, ◌^◌, ◌<◌, ◌≤◌, Bool, true, false, ◌||◌, List, ◌∷◌, ◌++◌, length, drop, nat_le}
+use Rattle.std.specs.Prelude.{nat_lt, slice_index}
 use Rattle.std.proofs.Math.Path.{refl}
-use Rattle.std.proofs.Common.{sym, ap, ◌∙◌, add-zero, mod-eq_of_lt, lt-ltb, ltb-true, ltb-false, leb-true, leb-false, length-drop, get_or-drop, drop-drop}
+use Rattle.std.proofs.Common.{sym, ap, ◌∙◌, add-zero, mod-eq_of_lt, lt-ltb, ltb-true, ltb-false, leb-true, leb-false, length-drop}
+use Rattle.std.proofs.Common.{get_or-drop, drop-drop}
 use native.Mathlib.Omega.{arith}
 use Rattle.codes.specs.Bytes.{big_endian}
 use Rattle.codes.specs.Difference.{has_code}
@@ -60,7 +62,8 @@ module _ (s : List ℕ) (at v : ℕ) (rest : List ℕ) where
 
 -- a code's bytes are read as the number that they are
 module _ (m : ℕ) (s : List ℕ) (at c : ℕ) (rest : List ℕ) where
-  read_by-two-written : 0x8000 ≤ c → c < 0xC000 → drop at s ≡ big_endian 2 c ++ rest → read_by m s at ≡ value_in (rows m) m 2 c (at + 2)
+  read_by-two-written : 0x8000 ≤ c → c < 0xC000 → drop at s ≡ big_endian 2 c ++ rest → read_by m s at
+      ≡ value_in (rows m) m 2 c (at + 2)
   read_by-two-written h k e =
       let n = left-length s at _ e (omega arith) in
       let f = left-first s at _ e in

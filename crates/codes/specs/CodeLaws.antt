@@ -1,6 +1,7 @@
 -- Iarwennol. Laws of the table of codes, once over the modulus m, and what is so at every width. Assume nothing.
 -- Used by the proof of code_from (a law for each row) and by the round trip (RoundTrip).
-use Rattle.std.specs.Prelude.{◌≡◌, ℕ, ◌+◌, ◌-◌, ◌^◌, ◌<◌, ◌≤◌, Bool, true, false, cond, ◌||◌, List, [], ◌∷◌, length, nat_le, nat_lt, refl}
+use Rattle.std.specs.Prelude.{◌≡◌, ℕ, ◌+◌, ◌-◌, ◌^◌, ◌<◌, ◌≤◌, Bool, true, false, cond, ◌||◌, List, [], ◌∷◌, length, nat_le, nat_lt}
+use Rattle.std.specs.Prelude.{refl}
 use Rattle.std.proofs.Common.{zero-add, lt-ltb, le-ltb, le-leb, ltb-false, leb-false}
 use Rattle.std.proofs.Math.Nat.{sub-zero}
 use native.Mathlib.Omega.{arith}

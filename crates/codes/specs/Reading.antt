@@ -1,6 +1,7 @@
 -- Iarwennol. What stands at a place of a packet, and what the cursor answers (rules 3.4, 4.4).
 -- Used by every reader of a link packet.
-use Rattle.std.specs.Prelude.{ℕ, ◌+◌, ◌-◌, ◌*◌, ◌%◌, ◌^◌, Bool, cond, ◌&&◌, List, [], ◌∷◌, length, ◌==◌, nat_le, nat_lt, slice_index}
+use Rattle.std.specs.Prelude.{ℕ, ◌+◌, ◌-◌, ◌*◌, ◌%◌, ◌^◌, Bool, cond, ◌&&◌, List, [], ◌∷◌, length, ◌==◌, nat_le, nat_lt}
+use Rattle.std.specs.Prelude.{slice_index}
 use Rattle.codes.specs.Numbers.{cut, unused_code}
 use Rattle.codes.specs.Code.{Row, rows, among}
 use Rattle.codes.specs.declared.cursor.ReadByte.{ReadByte}

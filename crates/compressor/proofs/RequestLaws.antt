@@ -1,6 +1,7 @@
 -- Iarwennol. Laws of a request. Assume nothing.
 -- Used by the proofs of request, and by the theorem on lists of calls (crtp).
-use Rattle.std.specs.Prelude.{ℕ, zero, suc, ◌+◌, ◌<◌, ◌≡◌, refl, Bool, true, false, cond, List, [], ◌∷◌, eqb, length, get_or, set, drop}
+use Rattle.std.specs.Prelude.{ℕ, zero, suc, ◌+◌, ◌<◌, ◌≡◌, refl, Bool, true, false, cond, List, [], ◌∷◌, eqb, length, get_or, set}
+use Rattle.std.specs.Prelude.{drop}
 use Rattle.std.proofs.Common.{sym, ap, ◌∙◌, add-one, arith, length-set, length-drop, get_or-drop}
 use Rattle.std.proofs.lemmas.List.{set-get_or}
 use Rattle.links.specs.Cs.{record_count, record_context, record_asks, request_judged}
@@ -84,7 +85,8 @@ module _ (n : ℕ) (P : CompressorContext → Type 0) (step : (c : CompressorCon
   asked-keeps : (cs : List CompressorContext) (k i : ℕ) (asks : Bool) → P (get_or cs i no_context)
       → P (get_or (asked n asks k cs) i no_context)
   asked-keeps cs k i true before =
-      set_keeps P cs k i (requested n (get_or cs k no_context)) no_context (λ e. step (get_or cs k no_context) (rw e at before)) before
+      set_keeps P cs k i (requested n (get_or cs k no_context)) no_context (λ e. step (get_or cs k no_context) (rw e at before))
+      before
   asked-keeps cs k i false before = before
 
   asked_all-keeps : (s : List ℕ) (cs : List CompressorContext) (m i : ℕ) → P (get_or cs i no_context)
@@ -183,5 +185,6 @@ held-requested : (n : ℕ) (c : CompressorContext) → Held c → Held (requeste
 unfolding requested
 held-requested n c h = held_by c.status n c h
 
-pub held-request : (t : Table) (s : List ℕ) → ((i : ℕ) → Held (context_at t i)) → (i : ℕ) → Held (context_at (request_of t s).table i)
+pub held-request : (t : Table) (s : List ℕ) → ((i : ℕ) → Held (context_at t i)) → (i : ℕ)
+    → Held (context_at (request_of t s).table i)
 held-request t s held i = (request-asks t s).keeps Held (held-requested t.settings.repeats) i (held i)

@@ -45,7 +45,8 @@ module _ (t : Table) (p output : List ℕ) (size : length t.contexts ≡ 64) (al
   module _ (i : ℕ) (o : On t p i) (e : kind_at t p i ≡ compressed_udp) where
     values-bytes : values_read (bytes_at t p i) ≡ true
     values-bytes =
-        ap (λ s. values_read (s ++ drop (header_size (header_of p)) p)) (link_bytes-udp i (length p) (header_of p) (step_at t p i) e)
+        ap (λ s. values_read (s ++ drop (header_size (header_of p)) p))
+        (link_bytes-udp i (length p) (header_of p) (step_at t p i) e)
         ∙ values-cu_bytes i (step_at t p i).link.sequence (checksum_sent (step_at t p i).context) (step_at t p i).parts
         (drop (header_size (header_of p)) p) (CanSend-on t p i size all o).writable.sequence
 

@@ -1,9 +1,8 @@
 -- Iarwennol. The compressor's table: soundness and opening (rules 1.3, 2.1 to 2.4).
 -- Used by every call.
-use Rattle.std.specs.Prelude.{ℕ, ◌≡◌, Bool, true, false, cond, ◌&&◌, List, [], eqb, drop, get_or, set, replicate}
+use Rattle.std.specs.Prelude.{ℕ, ◌≡◌, Bool, true, false, cond, ◌&&◌, [], eqb, drop, get_or, set, replicate}
 use Rattle.settings.specs.Settings as settings
 use Rattle.settings.specs.declared.Settings.{Settings}
-use Rattle.packet.specs.declared.csrc.Csrc.{Csrc}
 use Rattle.context.specs.All.{all}
 use Rattle.context.specs.Sound.{sound_compressor, empty_compressor, no_flow, no_ip, no_rtp}
 use Rattle.context.specs.declared.compressor.Usage.{Usage}

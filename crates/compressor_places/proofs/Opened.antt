@@ -2,7 +2,7 @@
 -- Used by the proofs of open.
 use Prim.Native.Nat.{ℕ, ◌<◌}
 use mathlib.Core.Path.{◌≡◌, refl, sym, ap, ◌∙◌}
-use mathlib.Core.Bool.{Bool, true, false, cond}
+use mathlib.Core.Bool.{true, false}
 use mathlib.Core.List.{List, []}
 use native.Mathlib.Omega.{arith}
 use lib.ListN.{length, get_or, set, replicate, length-set, length-replicate}
@@ -16,7 +16,7 @@ use Rattle.context.specs.declared.compressor.CompressorContext.{CompressorContex
 use Rattle.compressor.specs.declared.answer.Outcome.TheVariants.{Accepted, Refused}
 use Rattle.compressor.specs.declared.table.Table.{Table}
 use Rattle.compressor.specs.Table.{empty_table, open_of}
-use Rattle.planes.specs.Planes.{Lent, lent, row, places, every}
+use Rattle.planes.specs.Planes.{Lent, lent, row, places}
 use Rattle.planes.proofs.PlanesLaws.{get_d-zeros, row-zeros, places-replicate}
 use Rattle.planes.proofs.EveryLaws.{every_made}
 use Rattle.compressor_table.specs.Layout.{context_of, context_in, plane_table, sized, typed_row, typed, table_of}

@@ -12,8 +12,8 @@ use Rattle.packet.specs.CsrcLaws.{same_list-refl}
 use Rattle.packet.specs.declared.csrc.Csrc.{Csrc}
 use Rattle.packet.specs.declared.header.Header.{Header}
 use Rattle.context.specs.Field.{off_pattern, counted, is_due}
-use Rattle.context.specs.Compressor.{same_constants, begun, reset, judged, adopts_id, adopts_timestamp, differences, due_now}
-use Rattle.context.specs.Compressor.{any_due, kind_of, due_after, deltas_after, moved, sent_with, step_of, nothing_due, Going}
+use Rattle.context.specs.Compressor.{same_constants, reset, judged, adopts_id, adopts_timestamp, differences, due_now}
+use Rattle.context.specs.Compressor.{any_due, kind_of, due_after, deltas_after, moved, sent_with, step_of, nothing_due}
 use Rattle.context.specs.Sound.{zero_due}
 use Rattle.compressor_steady.specs.Steady.{is_live, on_pattern, steady, steadied, steady_step}
 use Rattle.context.specs.declared.kept.Deltas.{Deltas}

@@ -13,7 +13,6 @@ use Rattle.context.specs.declared.compressor.Usage.TheVariants.{Live}
 use Rattle.context.specs.declared.compressor.CompressorContext.{CompressorContext}
 use Rattle.context.proofs.SoundFacts.{used_sound-bounds}
 use Rattle.context.proofs.Unfilled.{sound_list-none}
-use Rattle.compressor.specs.declared.table.Table.{Table}
 use Rattle.compressor.specs.Table.{context_at, sound_of}
 use Rattle.compressor.proofs.TableLaws.{sound_of-true}
 use Rattle.compressor.proofs.CanSendLaws.{sound-context_at}

@@ -1,7 +1,7 @@
 -- Iarwennol. The bytes of a steady packet before its rest: the head of a CR and the UDP checksum, and nothing else.
 -- Assumes nothing. Used by the proof of put_steady.
 use Prim.Native.Nat.{ℕ, ◌≤◌}
-use mathlib.Core.Path.{◌≡◌, refl, sym, ap, ◌∙◌}
+use mathlib.Core.Path.{◌≡◌, sym, ap}
 use mathlib.Core.Bool.{Bool, true, false, cond, not}
 use native.Mathlib.Omega.{arith}
 use mathlib.Core.List.{List, ◌++◌, append-nil}

@@ -1,6 +1,6 @@
 -- Iarwennol. The steady packet: one that goes out as a CR with no field but the UDP checksum, since it is just what the context and
 -- its deltas say (rule 8.8). Used by the short way of a send, which is proved to do what rules 8.3 to 8.8 do with such a packet.
-use Rattle.std.specs.Prelude.{ℕ, Bool, true, false, ◌&&◌, eqb}
+use Rattle.std.specs.Prelude.{Bool, true, false, ◌&&◌, eqb}
 use Rattle.codes.specs.Difference.{difference}
 use Rattle.packet.specs.declared.header.Header.{Header}
 use Rattle.context.specs.Field.{next_sequence}

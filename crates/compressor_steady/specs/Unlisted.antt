@@ -8,4 +8,5 @@ use Rattle.compressor.specs.Table.{context_at}
 
 -- where neither a header nor the context at place i, which is live, has a CSRC list, the fifteen words are the same too
 abbrev pub Unlisted : Table → (i : ℕ) → Header → Type 0
-Unlisted t i h = (context_at t i).status ≡ Live → h.csrc.count ≡ 0 → (context_at t i).csrc.count ≡ 0 → h.csrc ≡ (context_at t i).csrc
+Unlisted t i h = (context_at t i).status ≡ Live → h.csrc.count ≡ 0 → (context_at t i).csrc.count ≡ 0 → h.csrc
+    ≡ (context_at t i).csrc

@@ -3,7 +3,7 @@
 use Rattle.std.specs.Prelude.{ℕ, ◌≡◌, refl, true, List}
 use Rattle.std.proofs.Common.{sym, ap, ◌∙◌}
 use Rattle.compressor.specs.declared.answer.Outcome.{Outcome}
-use Rattle.compressor.specs.declared.answer.Outcome.TheVariants.{Accepted, Refused}
+use Rattle.compressor.specs.declared.answer.Outcome.TheVariants.{Accepted}
 use Rattle.compressor.specs.Answer.{Result, said}
 use Rattle.compressor.specs.Table.{open_of}
 use Rattle.planes.specs.Planes.{Lent}

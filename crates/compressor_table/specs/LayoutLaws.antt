@@ -1,8 +1,8 @@
 -- Iarwennol. Laws of the compressor's layout: one context read, one replaced. Assume nothing.
 -- Used by the proofs of the functions on slices, and by those of the calls.
-use Rattle.std.specs.Prelude.{ℕ, zero, suc, ◌+◌, ◌*◌, ◌<◌, ◌≤◌, ◌≢◌, ◌≡◌, Bool, true, false, ◌&&◌, cond, List, [], ◌∷◌, eqb, leb, length, get_or, set}
+use Rattle.std.specs.Prelude.{ℕ, zero, suc, ◌<◌, ◌≢◌, ◌≡◌, Bool, true, false, ◌&&◌, cond, List, eqb, leb, length, get_or, set}
 use Rattle.std.proofs.Math.Path.{refl}
-use Rattle.std.proofs.Common.{sym, ap, ◌∙◌, arith, eqb-true, eq-eqb, leb-true}
+use Rattle.std.proofs.Common.{sym, ap, ◌∙◌, arith, eqb-true, leb-true}
 use Rattle.std.proofs.Math.Bool.{and-eq-true_iff}
 use Rattle.std.proofs.lemmas.Bool.{eqb-false}
 use Rattle.context.specs.declared.compressor.Usage.{Usage}
@@ -11,11 +11,11 @@ use Rattle.context.specs.declared.compressor.CompressorContext.{CompressorContex
 use Rattle.compressor.specs.declared.table.Table.{Table}
 use Rattle.compressor.specs.Table.{context_at, with_context, no_context, empty_by, unopened, sound_of}
 use Rattle.compressor.proofs.TableLaws.{unsound-unopened}
-use Rattle.planes.specs.Planes.{Lent, lent, cell, row, replaced, places, every}
+use Rattle.planes.specs.Planes.{Lent, lent, row, replaced, places, every}
 use Rattle.planes.proofs.PlanesLaws.{length-replaced, row_same, row_other, replaced-row, get_d_past}
 use Rattle.planes.proofs.PlanesLaws.{places-at, places-set, length-places}
 use Rattle.planes.proofs.EveryLaws.{every-at, every_made}
-use Rattle.compressor_table.specs.Layout.{usage_of, context_of, flow_of, ip_of, rtp_of, list_of, deltas_of, earlier_of, due_of, link_of}
+use Rattle.compressor_table.specs.Layout.{usage_of, context_of}
 use Rattle.compressor_table.specs.Layout.{context_in, plane_table, sized, typed_row, typed, fits, table_of, Fits, Puts}
 use Rattle.compressor_table.specs.Layout.{usage_number, bit, words_of, shorts_of, bytes_of}
 
@@ -164,7 +164,8 @@ five a b c d e h =
 
 pub typed_row-true : (b : List ℕ) → typed_row b ≡ true → Typed b
 typed_row-true b e =
-    let p = five (leb (get_or b 0 0) 1) (leb (get_or b 4 0) 1) (leb (get_or b 5 0) 1) (leb (get_or b 6 0) 1) (leb (get_or b 9 0) 1) e in
+    let p = five (leb (get_or b 0 0) 1) (leb (get_or b 4 0) 1) (leb (get_or b 5 0) 1) (leb (get_or b 6 0) 1) (leb (get_or b 9 0) 1)
+    e in
     record { status = p.0; padding = p.1; extension = p.2; blank = p.3; known = p.4 }
 
 module _ (w h b : List ℕ) (i : ℕ) where

@@ -1,6 +1,6 @@
 -- Iarwennol. The loops of the walk together are the soundness of the table, context by context. Assume nothing.
 -- Used by the proofs of sound, wide_sound and lists_sound, and by Found.
-use Prim.Native.Nat.{ℕ, zero, suc, ◌+◌, ◌*◌, ◌%◌, ◌<◌}
+use Prim.Native.Nat.{ℕ, zero, suc, ◌+◌, ◌%◌, ◌<◌}
 use mathlib.Core.Path.{◌≡◌, refl, sym, ap, ◌∙◌}
 use mathlib.Core.Bool.{Bool, true, false, cond, not, ◌&&◌, ◌||◌, and_assoc, or-true, and-eq-true_iff}
 use mathlib.Core.List.{List, [], ◌∷◌}
@@ -13,7 +13,6 @@ use Rattle.codes.specs.Difference.{has_code}
 use Rattle.settings.specs.Settings as settings
 use Rattle.context.specs.Sound.{is_zero, zeros, sound_list, sound_link, sound_due, zero_list, used_sound, unused_sound}
 use Rattle.context.specs.Sound.{sound_compressor_by, sound_compressor}
-use Rattle.context.specs.declared.compressor.Usage.TheVariants.{Empty, Live}
 use Rattle.context.specs.declared.compressor.CompressorContext.{CompressorContext}
 use Rattle.compressor.specs.Table.{is_empty, sound_of, unopened}
 use Rattle.compressor.proofs.TableLaws.{unsound-unopened}
@@ -64,7 +63,8 @@ module _ (n : ℕ) (w h b : List ℕ) where
       (leaf 10)) (leaf 11)) (leaf 12)) (leaf 13)) (leaf 14)) (leaf 15)) (leaf 16)) none)) (leaf 17)) (leaf 18)) (leaf 19))
 
   abbrev live_sound : Chain
-  live_sound = (both (both (both (both (leaf 1) (leaf 2)) (leaf 3)) (leaf 6)) (both (both (both (both (both (both (leaf 17) (leaf 0))
+  live_sound = (both (both (both (both (leaf 1) (leaf 2)) (leaf 3)) (leaf 6))
+      (both (both (both (both (both (both (leaf 17) (leaf 0))
       (leaf 4)) (both (leaf 5) (leaf 19))) (leaf 18)) (both (both (both (both (both (both (both (leaf 7) (leaf 8)) (leaf 9))
       (leaf 10)) (leaf 11)) (leaf 12)) (leaf 13)) (leaf 14))) (both (leaf 15) (leaf 16))))
 
@@ -236,19 +236,23 @@ module _ (n : ℕ) (w h b : List ℕ) where
       && leb (get_or b 8 0) 15
       && leb (get_or b 9 0) 1
       && (not (eqb s 0)
-      || head_zeros (get_or b 1 0) (get_or b 2 0) (get_or b 3 0) (get_or b 4 0) (get_or b 5 0) (get_or b 6 0) (get_or b 7 0) (get_or b 8 0)
+      || head_zeros (get_or b 1 0) (get_or b 2 0) (get_or b 3 0) (get_or b 4 0) (get_or b 5 0) (get_or b 6 0) (get_or b 7 0)
+      (get_or b 8 0)
       (get_or b 9 0))
 
   abbrev due_by : ℕ → Bool
   due_by s =
-      due_limits n (get_or b 17 0) (get_or b 10 0) (get_or b 11 0) (get_or b 12 0) (get_or b 13 0) (get_or b 14 0) (get_or b 15 0) (get_or b 16 0)
+      due_limits n (get_or b 17 0) (get_or b 10 0) (get_or b 11 0) (get_or b 12 0) (get_or b 13 0) (get_or b 14 0) (get_or b 15 0)
+      (get_or b 16 0)
       (get_or b 18 0) (get_or b 19 0)
       && (not (eqb s 0)
-      || due_zeros n (get_or b 17 0) (get_or b 10 0) (get_or b 11 0) (get_or b 12 0) (get_or b 13 0) (get_or b 14 0) (get_or b 15 0) (get_or b 16 0)
+      || due_zeros n (get_or b 17 0) (get_or b 10 0) (get_or b 11 0) (get_or b 12 0) (get_or b 13 0) (get_or b 14 0)
+      (get_or b 15 0) (get_or b 16 0)
       (get_or b 18 0) (get_or b 19 0))
 
   abbrev short_by : ℕ → Bool
-  short_by s = (not (eqb s 0) || six_zeros (get_or h 0 0) (get_or h 1 0) (get_or h 2 0) (get_or h 3 0) (get_or h 4 0) (get_or h 5 0))
+  short_by s = (not (eqb s 0) || six_zeros (get_or h 0 0) (get_or h 1 0) (get_or h 2 0) (get_or h 3 0) (get_or h 4 0)
+      (get_or h 5 0))
       && eqb (get_or h 1 0 % 2) 0
 
   abbrev word_by : ℕ → Bool
@@ -263,10 +267,12 @@ module _ (n : ℕ) (w h b : List ℕ) where
 
   abbrev zh : Bool
   zh =
-      head_zeros (get_or b 1 0) (get_or b 2 0) (get_or b 3 0) (get_or b 4 0) (get_or b 5 0) (get_or b 6 0) (get_or b 7 0) (get_or b 8 0) (get_or b 9 0)
+      head_zeros (get_or b 1 0) (get_or b 2 0) (get_or b 3 0) (get_or b 4 0) (get_or b 5 0) (get_or b 6 0) (get_or b 7 0)
+      (get_or b 8 0) (get_or b 9 0)
 
   abbrev zd : Bool
-  zd = due_zeros n (get_or b 17 0) (get_or b 10 0) (get_or b 11 0) (get_or b 12 0) (get_or b 13 0) (get_or b 14 0) (get_or b 15 0) (get_or b 16 0)
+  zd = due_zeros n (get_or b 17 0) (get_or b 10 0) (get_or b 11 0) (get_or b 12 0) (get_or b 13 0) (get_or b 14 0) (get_or b 15 0)
+      (get_or b 16 0)
       (get_or b 18 0) (get_or b 19 0)
 
   abbrev zs : Bool
@@ -280,14 +286,17 @@ module _ (n : ℕ) (w h b : List ℕ) where
       let p = (and-eq-true_iff (zh && zd && zs) zw).0 q in
       let r = (and-eq-true_iff (zh && zd) zs).0 p.0 in
       let t = (and-eq-true_iff zh zd).0 r.0 in
-      head-count (get_or b 1 0) (get_or b 2 0) (get_or b 3 0) (get_or b 4 0) (get_or b 5 0) (get_or b 6 0) (get_or b 7 0) (get_or b 8 0)
+      head-count (get_or b 1 0) (get_or b 2 0) (get_or b 3 0) (get_or b 4 0) (get_or b 5 0) (get_or b 6 0) (get_or b 7 0)
+      (get_or b 8 0)
       (get_or b 9 0) t.0
 
   -- the walk's tests of a place not in use: nothing but zeros
   empty-walk : (head_by 0 && due_by 0 && short_by 0 && word_by 0 && tail) ≡ eval (empty w h b) (empty_walk w h b)
   empty-walk = rw (
-    head-zero (get_or b 1 0) (get_or b 2 0) (get_or b 3 0) (get_or b 4 0) (get_or b 5 0) (get_or b 6 0) (get_or b 7 0) (get_or b 8 0) (get_or b 9 0),
-    due-zero n (get_or b 17 0) (get_or b 10 0) (get_or b 11 0) (get_or b 12 0) (get_or b 13 0) (get_or b 14 0) (get_or b 15 0) (get_or b 16 0)
+    head-zero (get_or b 1 0) (get_or b 2 0) (get_or b 3 0) (get_or b 4 0) (get_or b 5 0) (get_or b 6 0) (get_or b 7 0)
+        (get_or b 8 0) (get_or b 9 0),
+    due-zero n (get_or b 17 0) (get_or b 10 0) (get_or b 11 0) (get_or b 12 0) (get_or b 13 0) (get_or b 14 0) (get_or b 15 0)
+        (get_or b 16 0)
         (get_or b 18 0) (get_or b 19 0),
     short-zero (get_or h 0 0) (get_or h 1 0) (get_or h 2 0) (get_or h 3 0) (get_or h 4 0) (get_or h 5 0),
     word-zero (get_or w 0 0) (get_or w 1 0) (get_or w 2 0) (get_or w 3 0) (get_or w 4 0) (get_or w 5 0),
@@ -347,7 +356,8 @@ module _ (w h b : List ℕ) where
   abbrev word_at : ℕ → Bool
   word_at i = word_test (row w i 0 21) (row b i 0 20)
 
-  pub wide-used : every (used_at b) 64 ≡ true → (every (even_at h) 64 && every (coded_at w) 64) ≡ (every short_at 64 && every word_at 64)
+  pub wide-used : every (used_at b) 64 ≡ true → (every (even_at h) 64 && every (coded_at w) 64)
+      ≡ (every short_at 64 && every word_at 64)
   wide-used e =
       let s = every_given (used_at b) short_at (even_at h) 64 e
       (λ i a. ap (λ (x : Bool). x && even_at h i) (passed (used_at b i) _ a)) in

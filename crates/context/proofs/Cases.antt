@@ -12,7 +12,8 @@ use Rattle.packet.specs.declared.sent.Sent16.{Sent16}
 use Rattle.packet.specs.declared.sent.Sent32.{Sent32}
 use Rattle.context.specs.Field.{next_sequence, next_generation, off_pattern, counted, is_due, gap, moved_on}
 use Rattle.context.specs.Compressor.{first, started, same_constants, begun, started_unless_due, requested, reset, adopts_id}
-use Rattle.context.specs.Compressor.{adopts_timestamp, judged, due_now, any_due, kind_of, list_if, parts_of, due_after, deltas_after}
+use Rattle.context.specs.Compressor.{adopts_timestamp, judged, due_now, any_due, kind_of, list_if, parts_of, due_after}
+use Rattle.context.specs.Compressor.{deltas_after}
 use Rattle.context.specs.Compressor.{full_header, compressed_rtp, moved, sent_with, step_of}
 use Rattle.context.specs.Decompressor.{filled, gap_judged, ip_after, rtp_after, deltas_held, advanced, advanced_whole, broke}
 use Rattle.context.specs.Decompressor.{settled, applied, applied_whole, rebuilt}
@@ -173,7 +174,8 @@ pub record Replacing : Type 0 where
 
 pub compressing : Compressing
 unfolding difference has_code same_list next_sequence next_generation off_pattern counted is_due first started same_constants begun
-    started_unless_due requested reset adopts_id adopts_timestamp judged due_now any_due kind_of list_if parts_of due_after deltas_after moved
+    started_unless_due requested reset adopts_id adopts_timestamp judged due_now any_due kind_of list_if parts_of due_after
+    deltas_after moved
     sent_with step_of empty_compressor
 compressing = record {
   jumped-parts = refl;
@@ -207,7 +209,8 @@ rebuilding = record {
 }
 
 pub replacing : Replacing
-unfolding sum gap moved_on filled gap_judged ip_after rtp_after deltas_held advanced advanced_whole broke settled applied applied_whole
+unfolding sum gap moved_on filled gap_judged ip_after rtp_after deltas_held advanced advanced_whole broke settled applied
+    applied_whole
 replacing = record {
   unsent = refl;
   unsent-stands = refl;

@@ -2,7 +2,7 @@
 -- What each tells of the packet and its context. Assume nothing.
 -- Used by the laws of a packet that is lost, of one that arrives, and of its parts.
 use Prim.Native.Nat.{ℕ, ◌≤◌}
-use mathlib.Core.Path.{◌≡◌, refl, sym, ap}
+use mathlib.Core.Path.{◌≡◌, refl, sym}
 use mathlib.Core.Bool.{Bool, true, false, cond, ◌&&◌, ◌||◌, true≢false, false≢true, and-eq-true_iff}
 use native.Mathlib.Omega.{arith}
 use lib.Dec.{eqb, ltb}

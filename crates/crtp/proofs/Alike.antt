@@ -32,7 +32,8 @@ module _ (w : Ends·World) (i : ℕ) (output : Bytes) (right : calls.Answered en
   rebuilt-by (yes h) e = (right output).0 h
   rebuilt-by (no h) e = absurd (omega (arith, e, (right output).1 (omega arith)))
 
-  rebuilt-answered : (answer (world_of w) i output).number ≡ 0 → Rebuilt (sent_at (world_of w) i).packet (answer (world_of w) i output)
+  rebuilt-answered : (answer (world_of w) i output).number ≡ 0 → Rebuilt (sent_at (world_of w) i).packet
+      (answer (world_of w) i output)
   rebuilt-answered z =
       rebuilt-world_of w i output
       (rebuilt-by (dec_le (length packet) (length output.list))

@@ -7,7 +7,7 @@ use mathlib.Core.Bool.{Bool, true, false, false≢true}
 use mathlib.Core.List.{List, [], ◌∷◌, ◌++◌, map}
 use borrow.Author.Tests.{eqb-true}
 use lib.Dec.{eqb, lit≤}
-use lib.ListN.{take, replicate}
+use lib.ListN.{replicate}
 use Rattle.codes.specs.Bytes.{are_bytes}
 use Rattle.codes.specs.BytesLaws.{AllBytes-are_bytes}
 use Rattle.compressor.specs.Table as compressing
@@ -22,7 +22,8 @@ use Rattle.compressor.specs.Lookup.{place_of}
 use Rattle.compressor.specs.Request.{request_of}
 use Rattle.compressor.specs.Send.{step_on, link_bytes, send_at, send_of}
 use Rattle.context.specs.Compressor.{first, started, same_constants, begun, started_unless_due, requested, reset, adopts_id}
-use Rattle.context.specs.Compressor.{adopts_timestamp, judged, due_now, any_due, kind_of, list_if, parts_of, due_after, deltas_after, moved}
+use Rattle.context.specs.Compressor.{adopts_timestamp, judged, due_now, any_due, kind_of, list_if, parts_of, due_after}
+use Rattle.context.specs.Compressor.{deltas_after, moved}
 use Rattle.context.specs.Compressor.{sent_with, step_of, first_step}
 use Rattle.context.specs.Decompressor.{filled, gap_judged, ip_after, rtp_after, deltas_held, advanced, broke}
 use Rattle.context.specs.Decompressor.{settled, applied, rebuilt}
@@ -42,7 +43,8 @@ use Rattle.links.specs.Cu.{cu_bytes, changes_of, values_of, cu_rest, cu_of}
 use Rattle.links.specs.Fh.{fh_bytes, fields_form, fh_judged, fh_of}
 use Rattle.links.specs.Head.{head_of}
 use Rattle.packet.specs.Csrc.{same_list}
-use Rattle.saves.specs.Saves.{checked, next_up_to, kept_form, header_from, record_bytes, fixed_of, size_allowed, context_of, record_of}
+use Rattle.saves.specs.Saves.{checked, next_up_to, kept_form, header_from, record_bytes, fixed_of, size_allowed, context_of}
+use Rattle.saves.specs.Saves.{record_of}
 use Rattle.saves.specs.Saves.{whole_of, front_of, saved_bytes, save_of, load_of}
 use Rattle.crtp.specs.Robust as robust
 use Rattle.crtp.specs.Robust.{Bytes, Sent, Bounded, Opened}
@@ -249,17 +251,23 @@ pub record Computed : Type 0 where
   cramp_next : gone (robust.after patient cramped) 5 ≡ true ∷ true ∷ false ∷ true ∷ true ∷ []
 
 pub computed : Computed
-unfolding compressing.sound_of decompressing.sound_of plus code_of difference sum has_code read_byte read_word read_long read_by place_of
+unfolding compressing.sound_of decompressing.sound_of plus code_of difference sum has_code read_byte read_word read_long read_by
+    place_of
     request_of step_on link_bytes send_at send_of first started same_constants begun started_unless_due requested reset adopts_id
-    adopts_timestamp judged due_now any_due kind_of list_if parts_of due_after deltas_after moved sent_with step_of first_step filled
+    adopts_timestamp judged due_now any_due kind_of list_if parts_of due_after deltas_after moved sent_with step_of first_step
+    filled
     gap_judged ip_after rtp_after deltas_held advanced broke settled applied rebuilt next_sequence
     next_generation off_pattern counted is_due gap moved_on sound_list sound_link sound_due zero_list used_sound unused_sound
     sound_compressor_by sound_compressor filled_sound unfilled_sound sound_decompressor_by sound_decompressor empty_compressor
-    empty_decompressor receive_full receive_old receive_compressed receive_kind receive_by next read_payload next_byte next_word next_long
-    next_delta16 next_delta32 next_payload ip_checksum_of ip_checksum fixed_form compressible rtp_at flow_of ip_of header_of ip_front ip_back
-    udp_bytes rtp_fixed header_bytes udp_checksum_of udp_right cr_bytes second_with second_of deltas_of cr_rest cr_of record_with record_judged
+    empty_decompressor receive_full receive_old receive_compressed receive_kind receive_by next read_payload next_byte next_word
+    next_long
+    next_delta16 next_delta32 next_payload ip_checksum_of ip_checksum fixed_form compressible rtp_at flow_of ip_of header_of
+    ip_front ip_back
+    udp_bytes rtp_fixed header_bytes udp_checksum_of udp_right cr_bytes second_with second_of deltas_of cr_rest cr_of record_with
+    record_judged
     request_judged cu_bytes
-    changes_of values_of cu_rest cu_of fh_bytes fields_form fh_judged fh_of head_of same_list checked next_up_to kept_form header_from
+    changes_of values_of cu_rest cu_of fh_bytes fields_form fh_judged fh_of head_of same_list checked next_up_to kept_form
+    header_from
     record_bytes fixed_of size_allowed context_of record_of whole_of front_of saved_bytes save_of load_of
 computed = record {
   on = refl;

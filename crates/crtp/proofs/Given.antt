@@ -30,7 +30,8 @@ use Rattle.compressor.specs.declared.table.Table as compressor
 use Rattle.compressor.specs.Answer as sending
 use Rattle.compressor.specs.Table as compressing
 use Rattle.compressor.specs.Send.{send_of}
-use Rattle.compressor.proofs.SendLaws.{On, step_at, table_at, kind_at, bytes_at, Goes, goes-refused, goes-plain, goes_on, send_of-goes}
+use Rattle.compressor.proofs.SendLaws.{On, step_at, table_at, kind_at, bytes_at, Goes, goes-refused, goes-plain, goes_on}
+use Rattle.compressor.proofs.SendLaws.{send_of-goes}
 use Rattle.compressor.proofs.CanSendLaws.{sound-most, CanSend-on}
 use Rattle.compressor.proofs.SoundLaws.{sound-context}
 use Rattle.decompressor.proofs.ReceiveSound.{named}

@@ -93,7 +93,8 @@ module _ (all : List Call) (log : List (calls.Sent Bytes Frame)) where
   sent_in-map : (i : ℕ) → sent_in (map sent_of log) i ≡ sent_of (get_or log i ends.nothing)
   sent_in-map i = get_or-map sent_of log i ends.nothing
 
-  losses-front : (c i : ℕ) → losses c all 0 (take i (map sent_of log)) ≡ marks ends c (arrivals ends (ends_calls all)) 0 (take i log)
+  losses-front : (c i : ℕ) → losses c all 0 (take i (map sent_of log))
+      ≡ marks ends c (arrivals ends (ends_calls all)) 0 (take i log)
   losses-front c i = ap (λ (es : List Sent). losses c all 0 es) (map-take sent_of i log) ∙ losses-marks c all 0 (take i log)
 
   fit_at : (i : ℕ) → Fits all (map sent_of log) i → (c : ℕ) → FitAt ends c (arrivals ends (ends_calls all)) log i

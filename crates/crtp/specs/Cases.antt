@@ -9,7 +9,8 @@ use Rattle.codes.specs.Code.{code_of}
 use Rattle.codes.specs.Difference.{difference, sum, has_code}
 use Rattle.codes.specs.Reading.{read_byte, read_word, read_long, read_by}
 use Rattle.context.specs.Compressor.{first, started, same_constants, begun, started_unless_due, requested, reset, adopts_id}
-use Rattle.context.specs.Compressor.{adopts_timestamp, judged, due_now, any_due, kind_of, list_if, parts_of, due_after, deltas_after, moved}
+use Rattle.context.specs.Compressor.{adopts_timestamp, judged, due_now, any_due, kind_of, list_if, parts_of, due_after}
+use Rattle.context.specs.Compressor.{deltas_after, moved}
 use Rattle.context.specs.Compressor.{sent_with, step_of, first_step}
 use Rattle.context.specs.Decompressor.{filled, gap_judged, ip_after, rtp_after, deltas_held, advanced, advanced_whole, broke}
 use Rattle.context.specs.Decompressor.{settled, applied, applied_whole, rebuilt}
@@ -17,7 +18,8 @@ use Rattle.context.specs.Field.{next_sequence, next_generation, off_pattern, cou
 use Rattle.context.specs.Sound.{sound_list, sound_link, sound_due, zero_list, used_sound, unused_sound, sound_compressor_by}
 use Rattle.context.specs.Sound.{sound_compressor, filled_sound, unfilled_sound, sound_decompressor_by, sound_decompressor}
 use Rattle.context.specs.Sound.{empty_compressor, empty_decompressor}
-use Rattle.fields.specs.Next.{next, read_version, read_payload, next_version, next_byte, next_word, next_long, next_delta16, next_delta32}
+use Rattle.fields.specs.Next.{next, read_version, read_payload, next_version, next_byte, next_word, next_long, next_delta16}
+use Rattle.fields.specs.Next.{next_delta32}
 use Rattle.fields.specs.Next.{next_payload}
 use Rattle.headers.specs.Checksum.{ip_checksum_of, ip_checksum}
 use Rattle.headers.specs.Compressible.{fixed_form, compressible}
@@ -216,13 +218,18 @@ pub cases-hold : map given cases ≡ map said cases
 unfolding cases compressing.open_of decompressing.open_of settings.open_of compressing.sound_of
     decompressing.sound_of plus code_of difference sum has_code read_byte read_word read_long read_by place_of
     request_of step_on link_bytes send_at send_of first started same_constants begun started_unless_due requested reset adopts_id
-    adopts_timestamp judged due_now any_due kind_of list_if parts_of due_after deltas_after moved sent_with step_of first_step filled
+    adopts_timestamp judged due_now any_due kind_of list_if parts_of due_after deltas_after moved sent_with step_of first_step
+    filled
     gap_judged ip_after rtp_after deltas_held advanced advanced_whole broke settled applied applied_whole rebuilt next_sequence
     next_generation off_pattern counted is_due gap moved_on sound_list sound_link sound_due zero_list used_sound unused_sound
     sound_compressor_by sound_compressor filled_sound unfilled_sound sound_decompressor_by sound_decompressor empty_compressor
-    empty_decompressor receive_full receive_old receive_compressed receive_kind receive_by next read_payload next_byte next_word next_long
-    next_delta16 next_delta32 next_payload ip_checksum_of ip_checksum fixed_form compressible rtp_at flow_of ip_of header_of ip_front ip_back
-    udp_bytes rtp_fixed header_bytes cr_bytes second_with second_of deltas_of cr_rest cr_of cs_bytes record_with record_judged request_judged
-    cu_bytes changes_of values_of cu_rest cu_of read_version next_version fixed_of rtp_rest rtp_of whole_of fh_bytes fields_form fh_judged fh_of
+    empty_decompressor receive_full receive_old receive_compressed receive_kind receive_by next read_payload next_byte next_word
+    next_long
+    next_delta16 next_delta32 next_payload ip_checksum_of ip_checksum fixed_form compressible rtp_at flow_of ip_of header_of
+    ip_front ip_back
+    udp_bytes rtp_fixed header_bytes cr_bytes second_with second_of deltas_of cr_rest cr_of cs_bytes record_with record_judged
+    request_judged
+    cu_bytes changes_of values_of cu_rest cu_of read_version next_version fixed_of rtp_rest rtp_of whole_of fh_bytes fields_form
+    fh_judged fh_of
     head_of same_list report_of
 cases-hold = refl

@@ -1,7 +1,8 @@
 -- Iarwennol. Robustness, stated (rules 10.1 to 10.5, 10.7 and 10.9): one claim about whole lists of calls, over bytes, about the
 -- very definitions that the contracts of the calls cite. This file can be read alone; its proof is `robust` (proofs/Robust.antt).
 -- Unsaved has the claim for lists without saves and loads, where what is lost can be told by the arrivals alone.
-use Rattle.std.specs.Prelude.{ℕ, suc, ◌≤◌, ◌<◌, ◌≡◌, Bool, true, false, cond, not, ◌||◌, List, [], ◌∷◌, ◌++◌, eqb, ltb, length, get_or, take, replicate}
+use Rattle.std.specs.Prelude.{ℕ, suc, ◌≤◌, ◌<◌, ◌≡◌, Bool, true, false, cond, not, ◌||◌, List, [], ◌∷◌, ◌++◌, eqb, ltb, length}
+use Rattle.std.specs.Prelude.{get_or, take, replicate}
 use Rattle.std.proofs.Math.Option.{Option, none, some}
 use Rattle.codes.specs.Bytes.{AllBytes}
 use Rattle.codes.specs.Reading.{word_at}

@@ -89,7 +89,8 @@ losses c xs i (e ∷ es) =
 -- whole list, es: all that was given out
 abbrev pub Fits : (all : List Call) → (es : List Sent) → (i : ℕ) → Type 0
 Fits all es i =
-    (c : ℕ) → is_on (context_of (sent_in es i)) c ≡ true → Gap (losses c all 0 (take i es)) → checksum_fits (sent_in es i).packet ≡ true
+    (c : ℕ) → is_on (context_of (sent_in es i)) c ≡ true → Gap (losses c all 0 (take i es)) → checksum_fits (sent_in es i).packet
+    ≡ true
 
 -- of every arrival, with room or without
 abbrev pub AllFit : (all : List Call) → (es : List Sent) → List Call → Type 0

@@ -1,13 +1,13 @@
 -- Iarwennol. Laws of the rebuilt packet: how long it is, that it is the packet that was read, and that it is given out whole.
 -- Assume nothing. Used by the functions that write it, and by the theorem on lists of calls (crtp).
-use Rattle.std.specs.Prelude.{ℕ, ◌+◌, ◌*◌, ◌-◌, ◌≤◌, ◌<◌, ◌≡◌, refl, true, false, List, [], ◌∷◌, ◌++◌, length, take, drop}
-use Rattle.std.proofs.Common.{sym, ap, ◌∙◌, arith, lt-ltb, le-ltb, length-append, length-drop}
+use Rattle.std.specs.Prelude.{ℕ, ◌+◌, ◌-◌, ◌≤◌, ◌<◌, ◌≡◌, true, List, length, take, drop}
+use Rattle.std.proofs.Common.{sym, ◌∙◌, arith, lt-ltb, le-ltb, length-append, length-drop}
 use Rattle.std.proofs.Math.Seq.{take-append_seam}
 use Rattle.codes.specs.Bytes.{AllBytes}
 use Rattle.octets.specs.Put.{fronted}
 use Rattle.packet.specs.declared.header.Header.{Header}
 use Rattle.headers.specs.Header.{header_of, header_bytes, header_size, ip_front, ip_back, udp_bytes, rtp_fixed}
-use Rattle.headers.specs.Checksum.{printed, ip_checksum}
+use Rattle.headers.specs.Checksum.{printed}
 use Rattle.headers.specs.Compressible.{compressible}
 use Rattle.headers.proofs.CompressibleLaws.{compressible-size}
 use Rattle.headers.specs.ListLaws.{length-list_bytes}

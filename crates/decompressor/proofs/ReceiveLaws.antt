@@ -1,9 +1,8 @@
 -- Iarwennol. Laws of an arrival: what is made of each link layout that was written. Assume nothing.
 -- Used by the theorem on lists of calls (crtp).
-use Rattle.std.specs.Prelude.{ℕ, ◌+◌, ◌≤◌, ◌<◌, ◌≡◌, refl, Bool, true, false, cond, List, [], ◌∷◌, ◌++◌, eqb, leb, ltb, length, drop}
-use Rattle.std.proofs.Common.{sym, ap, ◌∙◌, arith}
-use Rattle.std.proofs.Math.Bool.{and-eq-true_iff}
-use borrow.Author.Tests.{leb-true, le-leb, le-ltb, lt-ltb}
+use Rattle.std.specs.Prelude.{ℕ, ◌+◌, ◌≤◌, ◌<◌, ◌≡◌, refl, true, false, List, ◌++◌, length, drop}
+use Rattle.std.proofs.Common.{ap, ◌∙◌, arith}
+use borrow.Author.Tests.{le-leb, le-ltb, lt-ltb}
 use Rattle.std.proofs.Math.Seq.{drop-append_seam}
 use Rattle.packet.specs.declared.header.Header.{Header}
 use Rattle.packet.specs.declared.parts.Parts.{Parts}
@@ -12,14 +11,13 @@ use Rattle.packet.specs.Refusal.{is_accepted}
 use Rattle.settings.specs.SettingsLaws.{length_allowed-made}
 use Rattle.fields.specs.Place.{good}
 use Rattle.links.specs.declared.head.Head.{Head}
-use Rattle.links.specs.declared.head.ReadParts.{ReadParts}
 use Rattle.links.proofs.FitsLaws.{CuFits, CrFits}
 use Rattle.links.specs.Head.{context_of, head_of}
-use Rattle.links.specs.Cu.{cu_bytes, cu_flags, cu_of}
+use Rattle.links.specs.Cu.{cu_bytes, cu_flags}
 use Rattle.links.proofs.CuLaws.{context_of-cu_bytes, head_of-cu_bytes, cu_of-cu_bytes}
-use Rattle.links.specs.Cr.{cr_bytes, cr_flags, cr_of}
+use Rattle.links.specs.Cr.{cr_bytes, cr_flags}
 use Rattle.links.proofs.CrLaws.{context_of-cr_bytes, head_of-cr_bytes, cr_of-cr_bytes}
-use Rattle.links.specs.Fh.{fh_bytes, fh_of}
+use Rattle.links.specs.Fh.{fh_bytes}
 use Rattle.links.proofs.FhLaws.{FhFits, length-fh_bytes, fh_judged-fh_bytes, fh_of-fh_bytes}
 use Rattle.context.specs.Decompressor.{accepted_as, applied, broke, filled}
 use Rattle.context.specs.declared.decompressor.Status.{Status}
@@ -28,9 +26,9 @@ use Rattle.context.specs.declared.decompressor.DecompressorContext.{Decompressor
 use Rattle.decompressor.specs.declared.old.OldForm.{OldForm}
 use Rattle.decompressor.specs.declared.old.OldForm.TheVariants.{Taken}
 use Rattle.decompressor.specs.declared.table.Table.{Table}
-use Rattle.decompressor.specs.Answer.{Result, refused, delivered}
+use Rattle.decompressor.specs.Answer.{refused, delivered}
 use Rattle.decompressor.specs.Table.{sound_of, context_at, with_context}
-use Rattle.decompressor.specs.Receive.{packet_of, receive_plain, receive_full, rebuild_to, settle, settle_read}
+use Rattle.decompressor.specs.Receive.{packet_of, receive_full, rebuild_to}
 use Rattle.decompressor.specs.Receive.{receive_parts, receive_udp, receive_rtp, receive_on, receive_compressed, receive_kind}
 use Rattle.decompressor.specs.Receive.{receive_by, receive_of}
 

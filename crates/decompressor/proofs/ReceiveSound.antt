@@ -12,8 +12,6 @@ use lib.ListN.{length, drop, length-set}
 use lib.Seq.{get_or-set_other}
 use Rattle.codes.specs.Bytes.{AllBytes}
 use Rattle.codes.specs.Reading.{byte_at}
-use Rattle.packet.specs.declared.parts.Parts.{Parts}
-use Rattle.fields.specs.declared.place.Place.{Place}
 use Rattle.packet.specs.Ranges.{HeaderFits, PartsFit}
 use Rattle.packet.specs.RangesLaws.{parts-sound, header-sound}
 use Rattle.headers.specs.Header.{header_size}
@@ -49,7 +47,7 @@ use Rattle.decompressor.specs.declared.old.OldForm.TheVariants.{Taken}
 use Rattle.decompressor.specs.declared.table.Table.{Table}
 use Rattle.decompressor.specs.Answer.{Result, accepted, refused, delivered}
 use Rattle.decompressor.specs.Table.{no_context, sound_of, context_at, with_context, Sound}
-use Rattle.decompressor.proofs.TableLaws.{sound_of-true, sound-context_at, sound-with_context}
+use Rattle.decompressor.proofs.TableLaws.{sound-context_at, sound-with_context}
 use Rattle.decompressor.specs.Receive.{packet_of, receive_plain, full_table, receive_full_by, receive_full, rebuild_to}
 use Rattle.decompressor.specs.Receive.{is_disproved, settle, settle_read}
 use Rattle.decompressor.specs.Receive.{receive_parts, receive_whole, receive_old, receive_udp, receive_rtp, receive_on}
@@ -266,11 +264,13 @@ module _ (old : OldForm) (t : Table) (sound : Sound t) (s : List ℕ) (a : AllBy
           h.flags.low s small
           (links.cr_of-range s a h.place h.flags (checksum_read (context_at t i)))
 
-    receive_on-way : (u : Status) (kind : ℕ) → (context_at t i).status ≡ u → Way t i (λ output. receive_on old u kind t i h s output)
+    receive_on-way : (u : Status) (kind : ℕ) → (context_at t i).status ≡ u
+        → Way t i (λ output. receive_on old u kind t i h s output)
     receive_on-way Empty kind e = broken-way t i sound among 8 (omega arith)
     receive_on-way Broken kind e = broken-way t i sound among 8 (omega arith)
     receive_on-way Live kind e =
-        way-if (eqb kind 2) (λ output. receive_udp old t i h s output) (λ output. receive_rtp t i h s output) (λ b. receive_udp-way e)
+        way-if (eqb kind 2) (λ output. receive_udp old t i h s output) (λ output. receive_rtp t i h s output)
+        (λ b. receive_udp-way e)
         (receive_rtp-way e)
 
   receive_compressed-way : (kind : ℕ) → Way t (context_of s) (λ output. receive_compressed old kind t s output)
@@ -352,6 +352,7 @@ module _ (t : Table) (kind : ℕ) (s : List ℕ) (sound : Sound t) (a : AllBytes
     context_at-receive j n = leaves-other receive-leaves j n
 
     -- what would be accepted with more output is refused 11, and leaves the table
-    pub receive-no_room : (room : List ℕ) → (receive_of t kind s room).number ≡ 0 → length output < (receive_of t kind s room).length
+    pub receive-no_room : (room : List ℕ) → (receive_of t kind s room).number ≡ 0
+        → length output < (receive_of t kind s room).length
         → receive_of t kind s output ≡ refused t 11 output
     receive-no_room room z r = way-room (λ o. receive_of t kind s o) receive-way room output z r

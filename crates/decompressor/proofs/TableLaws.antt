@@ -1,6 +1,6 @@
 -- Iarwennol. Laws of the decompressor's table: what it takes to stay sound, and what an opening gives. Assume nothing.
 -- Used by the laws of an arrival (ReceiveSound), and by the theorem on lists of calls (crtp).
-use Rattle.std.specs.Prelude.{ℕ, zero, suc, ◌≤◌, ◌<◌, ◌≡◌, refl, Bool, true, false, cond, ◌&&◌, List, [], ◌∷◌, length, get_or, set, drop, replicate}
+use Rattle.std.specs.Prelude.{ℕ, ◌≤◌, ◌<◌, ◌≡◌, refl, Bool, true, false, cond, ◌&&◌, drop, replicate}
 use Rattle.std.proofs.Common.{sym, subst, arith, drop-set-lt}
 use Rattle.std.proofs.Math.Bool.{and-eq-true_iff}
 use Rattle.std.proofs.lemmas.List.{get_or-replicate}

@@ -1,8 +1,7 @@
 -- Iarwennol. An arrival (rules 3.3 to 3.5, 6, 7): what the decompressor makes of a link packet.
 -- Used by the contract of receive, and by the theorem on lists of calls (crtp), which is about this very definition.
-use Rattle.std.specs.Prelude.{ℕ, ◌+◌, ◌-◌, Bool, true, false, cond, not, ◌&&◌, List, [], ◌∷◌, ◌++◌, eqb, leb, ltb, length, drop}
+use Rattle.std.specs.Prelude.{ℕ, ◌+◌, ◌-◌, Bool, cond, not, ◌&&◌, List, ◌++◌, eqb, leb, ltb, length, drop}
 use Rattle.codes.specs.Numbers.{unsound, bad_length, unknown_type, cut, no_such_context, not_live, too_long, disproved}
-use Rattle.codes.specs.Reading.{byte_at}
 use Rattle.packet.specs.Types.{plain, full_header, compressed_udp, compressed_rtp}
 use Rattle.packet.specs.declared.header.Header.{Header}
 use Rattle.fields.specs.declared.place.Place.{Place}

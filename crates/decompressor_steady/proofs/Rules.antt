@@ -2,7 +2,7 @@
 -- Used by the short way that the decompressor has for it (receive).
 use Prim.Native.Nat.{ℕ}
 use mathlib.Core.Path.{◌≡◌, refl}
-use mathlib.Core.Bool.{Bool, true, false, ◌&&◌, and-eq-true_iff, false≢true}
+use mathlib.Core.Bool.{Bool, true, false, and-eq-true_iff, false≢true}
 use native.Mathlib.Omega.{arith}
 use borrow.Author.Tests.{eqb-true}
 use lib.Dec.{eqb}
@@ -38,7 +38,8 @@ is_next-true q c e =
 ---- one_step_on
 
 -- nothing but what moved_to names differs
-pub one_step_on-moved : (q : ℕ) (marker : Bool) (c : DecompressorContext) → one_step_on q marker c ≡ moved_to (one_step_on q marker c) c
+pub one_step_on-moved : (q : ℕ) (marker : Bool) (c : DecompressorContext) → one_step_on q marker c
+    ≡ moved_to (one_step_on q marker c) c
 unfolding one_step_on
 one_step_on-moved q marker c = refl
 

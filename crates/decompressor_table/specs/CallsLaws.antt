@@ -3,8 +3,7 @@
 use Rattle.std.specs.Prelude.{ℕ, ◌≡◌, refl, true, List}
 use Rattle.std.proofs.Common.{sym, ap, ◌∙◌}
 use Rattle.decompressor.specs.declared.answer.Outcome.{Outcome}
-use Rattle.decompressor.specs.declared.answer.Outcome.TheVariants.{Accepted, Refused}
-use Rattle.decompressor.specs.declared.table.Table.{Table}
+use Rattle.decompressor.specs.declared.answer.Outcome.TheVariants.{Accepted}
 use Rattle.decompressor.specs.Answer.{Result, said}
 use Rattle.decompressor.specs.Table.{open_of}
 use Rattle.planes.specs.Planes.{Lent}

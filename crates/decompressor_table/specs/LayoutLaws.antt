@@ -1,8 +1,8 @@
 -- Iarwennol. Laws of the decompressor's layout: one context read, one replaced. Assume nothing.
 -- Used by the proofs of the functions on slices, and by those of the calls.
-use Rattle.std.specs.Prelude.{ℕ, zero, suc, ◌+◌, ◌*◌, ◌<◌, ◌≤◌, ◌≢◌, ◌≡◌, Bool, true, false, ◌&&◌, cond, List, [], ◌∷◌, eqb, leb, length, get_or, set}
+use Rattle.std.specs.Prelude.{ℕ, zero, suc, ◌<◌, ◌≢◌, ◌≡◌, Bool, true, false, ◌&&◌, cond, List, eqb, leb, length, get_or, set}
 use Rattle.std.proofs.Math.Path.{refl}
-use Rattle.std.proofs.Common.{sym, ap, ◌∙◌, arith, eqb-true, eq-eqb, leb-true}
+use Rattle.std.proofs.Common.{sym, ap, ◌∙◌, arith, eqb-true, leb-true}
 use Rattle.std.proofs.Math.Bool.{and-eq-true_iff}
 use Rattle.std.proofs.lemmas.Bool.{eqb-false}
 use Rattle.context.specs.declared.decompressor.Status.{Status}
@@ -11,11 +11,11 @@ use Rattle.context.specs.declared.decompressor.DecompressorContext.{Decompressor
 use Rattle.decompressor.specs.declared.table.Table.{Table}
 use Rattle.decompressor.specs.Table.{context_at, with_context, no_context, unopened, sound_of}
 use Rattle.decompressor.proofs.TableLaws.{unsound-unopened}
-use Rattle.planes.specs.Planes.{Lent, lent, cell, row, replaced, places, every}
+use Rattle.planes.specs.Planes.{Lent, lent, row, replaced, places, every}
 use Rattle.planes.proofs.PlanesLaws.{length-replaced, row_same, row_other, replaced-row, get_d_past}
 use Rattle.planes.proofs.PlanesLaws.{places-at, places-set, length-places}
 use Rattle.planes.proofs.EveryLaws.{every-at, every_made}
-use Rattle.decompressor_table.specs.Layout.{status_of, context_of, flow_of, ip_of, rtp_of, list_of, deltas_of, link_of}
+use Rattle.decompressor_table.specs.Layout.{status_of, context_of}
 use Rattle.decompressor_table.specs.Layout.{context_in, plane_table, sized, typed_row, typed, fits, table_of, Fits, Puts}
 use Rattle.decompressor_table.specs.Layout.{status_number, bit, words_of, shorts_of, bytes_of}
 

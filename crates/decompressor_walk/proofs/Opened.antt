@@ -1,8 +1,8 @@
 -- Iarwennol. An opening over slices: planes of zeros are a table with nothing in it. Assumes nothing.
 -- Used by the proofs of open.
 use Prim.Native.Nat.{ℕ, ◌<◌}
-use mathlib.Core.Path.{◌≡◌, refl, sym, ap, ◌∙◌}
-use mathlib.Core.Bool.{Bool, true, false, cond}
+use mathlib.Core.Path.{◌≡◌, sym, ap, ◌∙◌}
+use mathlib.Core.Bool.{true, false}
 use mathlib.Core.List.{List, []}
 use native.Mathlib.Omega.{arith}
 use lib.ListN.{length, get_or, set, replicate, length-set, length-replicate}
@@ -16,7 +16,7 @@ use Rattle.context.specs.declared.decompressor.DecompressorContext.{Decompressor
 use Rattle.decompressor.specs.declared.answer.Outcome.TheVariants.{Accepted, Refused}
 use Rattle.decompressor.specs.declared.table.Table.{Table}
 use Rattle.decompressor.specs.Table.{empty_table, open_of}
-use Rattle.planes.specs.Planes.{Lent, lent, row, places, every}
+use Rattle.planes.specs.Planes.{Lent, lent, row, places}
 use Rattle.planes.proofs.PlanesLaws.{get_d-zeros, row-zeros, places-replicate}
 use Rattle.planes.proofs.EveryLaws.{every_made}
 use Rattle.decompressor_table.specs.Layout.{context_of, context_in, plane_table, sized, typed_row, typed, table_of, Fits}

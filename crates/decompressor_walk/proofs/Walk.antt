@@ -1,6 +1,6 @@
 -- Iarwennol. The loops of the walk together are the soundness of the table, context by context. Assume nothing.
 -- Used by the proofs of sound, wide_sound and lists_sound.
-use Prim.Native.Nat.{ℕ, zero, suc, ◌+◌, ◌*◌, ◌<◌}
+use Prim.Native.Nat.{ℕ, zero, suc, ◌+◌, ◌<◌}
 use mathlib.Core.Path.{◌≡◌, refl, sym, ap, ◌∙◌}
 use mathlib.Core.Bool.{Bool, true, false, cond, not, ◌&&◌, ◌||◌, and_assoc, and-false, or-true, and-eq-true_iff}
 use mathlib.Core.List.{List, [], ◌∷◌}
@@ -164,7 +164,8 @@ module _ (w h b : List ℕ) where
 -- the walk's tests of one place, by its status and whether it was filled
 module _ (w h b : List ℕ) where
   abbrev zb : Bool
-  zb = byte_zeros (get_or b 2 0) (get_or b 3 0) (get_or b 4 0) (get_or b 5 0) (get_or b 6 0) (get_or b 7 0) (get_or b 8 0) (get_or b 9 0)
+  zb = byte_zeros (get_or b 2 0) (get_or b 3 0) (get_or b 4 0) (get_or b 5 0) (get_or b 6 0) (get_or b 7 0) (get_or b 8 0)
+      (get_or b 9 0)
       (get_or b 10 0) (get_or b 11 0) (get_or b 12 0)
 
   abbrev zs : Bool
@@ -227,13 +228,15 @@ module _ (w h b : List ℕ) where
   count-zero e =
       let p = (and-eq-true_iff (zb && zs) zw).0 e in
       let r = (and-eq-true_iff zb zs).0 p.0 in
-      byte-count (get_or b 2 0) (get_or b 3 0) (get_or b 4 0) (get_or b 5 0) (get_or b 6 0) (get_or b 7 0) (get_or b 8 0) (get_or b 9 0)
+      byte-count (get_or b 2 0) (get_or b 3 0) (get_or b 4 0) (get_or b 5 0) (get_or b 6 0) (get_or b 7 0) (get_or b 8 0)
+      (get_or b 9 0)
       (get_or b 10 0) (get_or b 11 0) (get_or b 12 0) r.0
 
   -- never filled, empty or broken: nothing but zeros
   unfilled-walk : walk_by 0 0 ≡ eval (unfilled w h b) (unfilled_walk w h b)
   unfilled-walk = rw (
-    byte-zero (get_or b 2 0) (get_or b 3 0) (get_or b 4 0) (get_or b 5 0) (get_or b 6 0) (get_or b 7 0) (get_or b 8 0) (get_or b 9 0)
+    byte-zero (get_or b 2 0) (get_or b 3 0) (get_or b 4 0) (get_or b 5 0) (get_or b 6 0) (get_or b 7 0) (get_or b 8 0)
+        (get_or b 9 0)
         (get_or b 10 0) (get_or b 11 0) (get_or b 12 0),
     word-zero (get_or w 0 0) (get_or w 1 0) (get_or w 2 0) (get_or w 3 0) (get_or w 4 0),
     one-zero (get_or b 5 0),

@@ -88,7 +88,8 @@ one-of-four (refused n) h = omega arith
 one-of-four quiet h = omega arith
 
 four : (xs : List Event) → AllKnown xs
-    → count (is_sent plain) xs + count (is_sent full_header) xs + count (is_sent compressed_udp) xs + count (is_sent compressed_rtp) xs
+    → count (is_sent plain) xs + count (is_sent full_header) xs + count (is_sent compressed_udp) xs + count
+    (is_sent compressed_rtp) xs
     ≡ count is_send xs
 four [] h = omega arith
 four (x ∷ xs) h = omega (arith, one-of-four x h.0, four xs h.1)

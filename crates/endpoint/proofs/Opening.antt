@@ -2,24 +2,24 @@
 -- Used by the proof of open.
 use Prim.Native.Nat.{ℕ}
 use mathlib.Core.Path.{◌≡◌, refl, sym, ap, ◌∙◌}
-use mathlib.Core.Bool.{Bool, true, false, true≢false, false≢true}
+use mathlib.Core.Bool.{true, false, true≢false, false≢true}
 use mathlib.Core.List.{List, []}
 use borrow.Author.Tests.{eq-eqb, eqb-false}
 use lib.ListN.{length}
 use Rattle.crtp.specs.Face as crtp
 use Rattle.crtp.specs.Face.{Lent, CompressorOutcome, DecompressorOutcome, CompressorGives, DecompressorGives}
-use Rattle.crtp.specs.Face.{compressor_of, decompressor_of, sized_compressor, sized_decompressor, open_compressor_of, open_decompressor_of}
+use Rattle.crtp.specs.Face.{compressor_of, decompressor_of, sized_compressor, sized_decompressor, open_compressor_of}
+use Rattle.crtp.specs.Face.{open_decompressor_of}
 use Rattle.crtp.specs.Face.{open_compressor_lent, open_decompressor_lent, open_compressor-says, open_decompressor-says}
 use Rattle.crtp.specs.Face.{open-alike, open-leaves, refusal_number, refusal_number-refused}
 use Rattle.endpoint.specs.declared.answer.Endpoint.{Endpoint}
 use Rattle.endpoint.specs.declared.answer.Outcome.{Outcome}
 use Rattle.endpoint.specs.declared.answer.Outcome.TheVariants.{Opened, Sent, Rebuilt, Requested, Reported, Refused}
-use Rattle.endpoint.specs.declared.totals.Totals.{Totals}
 use Rattle.endpoint.specs.Totals.{totals_of, no_totals}
 use Rattle.endpoint.specs.Answer.{Result, said, number_of}
 use Rattle.endpoint.specs.Outcomes.{opened_of, is_accepted}
 use Rattle.endpoint.specs.Calls.{open_by, open_of}
-use Rattle.endpoint.specs.Lent.{Ends, ends, counted, endpoint_of, Gives}
+use Rattle.endpoint.specs.Lent.{ends, counted, endpoint_of, Gives}
 use Rattle.endpoint.specs.LentLaws.{held, endpoint_of-counted, gives_of}
 use Rattle.endpoint.proofs.Answers.{said-opened, said-unopened}
 
@@ -64,7 +64,8 @@ module _ (s s' r r' : Lent) (t : List ℕ) (n k : ℕ) (x : CompressorOutcome) (
         ∙ (λ j. record { compressor = compressor_of s'; decompressor = decompressor_of r'; totals = q j }))
         ∙ said-opened (held s r t) (compressor_of s') (decompressor_of r') x y a
         ∙ (λ j. open_by (held s r t) (said-c j) (said-d j)) in
-        let zero : (open_of (held s r t) n k).number ≡ 0 = sym (ap (λ (w : Result). w.number) says) ∙ accepted-number (opened_of x y)
+        let zero : (open_of (held s r t) n k).number ≡ 0 = sym (ap (λ (w : Result). w.number) says)
+        ∙ accepted-number (opened_of x y)
         a in
         gives_of (ends s r t) (ends s' r' t') (opened_of x y) [] (λ (z : Endpoint). open_of z n k) (held s r t)
         (endpoint_of-counted s r t zt) says (λ h u. absurd (h zero)) (λ h u. absurd (h zero))

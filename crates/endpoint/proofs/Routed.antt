@@ -2,7 +2,7 @@
 -- Used by the proofs of the calls.
 use Prim.Native.Nat.{ℕ}
 use mathlib.Core.Path.{◌≡◌, refl, sym, ap, ◌∙◌}
-use mathlib.Core.Bool.{Bool, true, false}
+use mathlib.Core.Bool.{true, false}
 use mathlib.Core.List.{List, []}
 use borrow.Author.Tests.{eq-eqb, ne_eqb}
 use lib.ListN.{length}
@@ -13,13 +13,12 @@ use Rattle.crtp.specs.Face.{send-closed, request-closed, receive-closed, report-
 use Rattle.endpoint.specs.declared.answer.Endpoint.{Endpoint}
 use Rattle.endpoint.specs.declared.answer.Outcome.{Outcome}
 use Rattle.endpoint.specs.declared.answer.Outcome.TheVariants.{Refused}
-use Rattle.endpoint.specs.declared.totals.Totals.{Totals}
-use Rattle.endpoint.specs.Totals.{rebuilt, quiet, totals_of, tallied}
+use Rattle.endpoint.specs.Totals.{rebuilt, totals_of, tallied}
 use Rattle.endpoint.specs.Answer.{Result, said}
 use Rattle.endpoint.specs.Outcomes.{sent_of, requested_of, rebuilt_of, reported_of, event_of}
-use Rattle.endpoint.specs.Calls.{closed_endpoint, sent_by, wire_of, requested_by, answered_by, radio_of, report_of}
+use Rattle.endpoint.specs.Calls.{closed_endpoint, wire_of, requested_by, answered_by, radio_of, report_of}
 use Rattle.endpoint.specs.Lent.{Ends, ends, counted, endpoint_of, Gives}
-use Rattle.endpoint.specs.LentLaws.{held, endpoint_of-counted, endpoint_of-not, gives_of, gives-kept}
+use Rattle.endpoint.specs.LentLaws.{held, endpoint_of-counted, endpoint_of-not, gives_of}
 use Rattle.endpoint.proofs.Answers.{said-sent, said-requested, said-rebuilt, said-reported}
 
 ---- Without six totals

@@ -1,7 +1,7 @@
 -- Iarwennol. Laws of an endpoint in slices. Assume nothing.
 -- Used by the proofs of the calls.
 use Rattle.std.specs.Prelude.{ℕ, ◌≡◌, refl, Bool, true, false, cond, ◌&&◌, List, []}
-use Rattle.std.proofs.Common.{sym, ap, ◌∙◌, subst}
+use Rattle.std.proofs.Common.{subst}
 use Rattle.crtp.specs.Face.{Lent, compressor_of, decompressor_of, sized_compressor, sized_decompressor}
 use Rattle.endpoint.specs.declared.answer.Endpoint.{Endpoint}
 use Rattle.endpoint.specs.declared.answer.Outcome.{Outcome}

@@ -14,7 +14,8 @@ use lib.Seq.{drop-set-lt}
 use Rattle.codes.specs.Bytes.{AllBytes}
 use Rattle.codes.specs.Code.{Row, rows, among}
 use Rattle.codes.specs.Difference.{has_code}
-use Rattle.codes.specs.Reading.{Reading, accepted, refused, has, byte_at, word_at, long_at, triple_at, field_at, read_byte, read_word}
+use Rattle.codes.specs.Reading.{Reading, accepted, refused, has, byte_at, word_at, long_at, triple_at, field_at, read_byte}
+use Rattle.codes.specs.Reading.{read_word}
 use Rattle.codes.specs.Reading.{read_long, read_delta, read_by, value_in, code_at}
 use Rattle.codes.proofs.RoundTrip.{left_after}
 use Rattle.codes.proofs.BytesRead.{AllBytes-byte_at}
@@ -109,7 +110,8 @@ module _ (s : List ℕ) where
   unfolding read_by
   read_by-within m at =
       chosen-within (ltb (byte_at s at) 0x80) _ _ (λ e. code_at-within m at 1 (byte_at s at)) (
-      chosen-within (ltb (byte_at s at) 0xC0) _ _ (λ e. code_at-within m at 2 (word_at s at)) (code_at-within m at 3 (triple_at s at))
+      chosen-within (ltb (byte_at s at) 0xC0) _ _ (λ e. code_at-within m at 2 (word_at s at))
+      (code_at-within m at 3 (triple_at s at))
       )
 
   pub read_delta-within : (w at : ℕ) → (read_delta w s at).at ≤ length s
@@ -164,7 +166,8 @@ module _ (m : ℕ) (s : List ℕ) (Q : ℕ → Type 0) (zero-holds : Q 0) where
   unfolding read_by
   read_by-value at h =
       chosen-value Q (ltb (byte_at s at) 0x80) _ _ (λ e. code_at-value at 1 (byte_at s at) h) (
-      chosen-value Q (ltb (byte_at s at) 0xC0) _ _ (λ e. code_at-value at 2 (word_at s at) h) (code_at-value at 3 (triple_at s at) h)
+      chosen-value Q (ltb (byte_at s at) 0xC0) _ _ (λ e. code_at-value at 2 (word_at s at) h)
+      (code_at-value at 3 (triple_at s at) h)
       )
 
 -- a difference lies within its field
@@ -279,7 +282,8 @@ module _ (s : List ℕ) (p : Place) (w : Bool) where
 
   pub next_delta32-coded : has_code 32 (next_delta32 s p w).field.value ≡ true
   unfolding next_delta32
-  next_delta32-coded = next-value (read_delta 32 s) p w (λ x. has_code 32 x ≡ true) (has_code-low 0 (omega arith)) (read_delta32-coded s)
+  next_delta32-coded = next-value (read_delta 32 s) p w (λ x. has_code 32 x ≡ true) (has_code-low 0 (omega arith))
+      (read_delta32-coded s)
 
   pub next_payload-value : (next_payload s p w).field.value < 128
   unfolding next_payload

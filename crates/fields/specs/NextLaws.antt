@@ -1,9 +1,11 @@
 -- Iarwennol. A field that was written is read back, and the reading goes on past it. Assumes nothing.
 -- A reading is about what is left from a place on: `drop at s ≡ written ++ rest`. Used by the round trips of the link layouts
 -- (links).
-use Rattle.std.specs.Prelude.{ℕ, zero, suc, ◌+◌, ◌-◌, ◌/◌, ◌^◌, ◌≤◌, ◌<◌, ◌≡◌, refl, Bool, true, false, cond, List, [], ◌∷◌, ◌++◌, length, get_or, set, take, drop, replicate}
+use Rattle.std.specs.Prelude.{ℕ, zero, suc, ◌+◌, ◌-◌, ◌/◌, ◌^◌, ◌≤◌, ◌<◌, ◌≡◌, refl, Bool, true, false, cond, List, [], ◌∷◌, ◌++◌}
+use Rattle.std.specs.Prelude.{length, get_or, set, take, drop, replicate}
 use Rattle.std.proofs.Math.Path.{ap}
-use Rattle.std.proofs.Common.{◌∙◌, append_assoc, add-zero, add_assoc, add-one, arith, length-append, take-append-drop, length-take-le, take-suc}
+use Rattle.std.proofs.Common.{◌∙◌, append_assoc, add-zero, add_assoc, add-one, arith, length-append, take-append-drop}
+use Rattle.std.proofs.Common.{length-take-le, take-suc}
 use borrow.Author.Tests.{lt-ltb, le-leb, eq-eqb}
 use Rattle.std.proofs.Math.Seq.{drop-append_seam}
 use Rattle.std.proofs.lemmas.List.{set_at}

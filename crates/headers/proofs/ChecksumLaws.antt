@@ -60,7 +60,8 @@ module _ (p : List ℕ) (h : 40 ≤ length p) where
       ≡ word_at p 0 ∷ word_at p 4 ∷ word_at p 6 ∷ word_at p 8 ∷ word_at p 12 ∷ word_at p 14 ∷ word_at p 16 ∷ word_at p 18 ∷ []
   words-beside =
       rw (
-        words_of-append (take 2 (drop 0 p)) (take 6 (drop 4 p) ++ take 8 (drop 12 p)) (omega (arith, length_part 2 0 (omega arith))),
+        words_of-append (take 2 (drop 0 p)) (take 6 (drop 4 p) ++ take 8 (drop 12 p))
+            (omega (arith, length_part 2 0 (omega arith))),
         words_of-append (take 6 (drop 4 p)) (take 8 (drop 12 p)) (omega (arith, length_part 6 4 (omega arith))),
         words_of-part p 0 0 (omega arith),
         words_of-part p 4 4 (omega arith),

@@ -1,6 +1,6 @@
 -- Iarwennol. Laws of a header and its bytes: what is written is read back, and what is read is written back. Assume nothing.
 -- Used by the round trips of the link layouts and by the theorem on lists of calls.
-use Rattle.std.specs.Prelude.{ℕ, zero, suc, ◌+◌, ◌-◌, ◌*◌, ◌/◌, ◌%◌, ◌^◌, ◌≤◌, ◌<◌, ◌≡◌, refl, true, eqb, length, take, replicate}
+use Rattle.std.specs.Prelude.{ℕ, ◌+◌, ◌-◌, ◌*◌, ◌/◌, ◌%◌, ◌^◌, ◌≤◌, ◌<◌, ◌≡◌, refl, true, length, take, replicate}
 use Rattle.std.proofs.Common.{sym, ◌∙◌}
 use Rattle.std.proofs.Math.Path.{ap}
 use mathlib.Core.List.{List, [], ◌∷◌, ◌++◌}
@@ -13,8 +13,6 @@ use Rattle.codes.proofs.BytesRead.{AllBytes-byte_at, word_at-lt, long_at-lt, pla
 use Rattle.codes.proofs.BytesRead.{word_at-big_endian, long_at-big_endian, big_endian-word_at, big_endian-long_at}
 use Rattle.packet.specs.Ranges.{HeaderInRange, FlowInRange, IpInRange, RtpInRange, ListInRange, Narrow}
 use Rattle.packet.specs.declared.header.Header.{Header}
-use Rattle.octets.specs.Flags.{bit_at, digit, byte_of, flags_of}
-use Rattle.octets.specs.FlagsLaws.{digit_lt, flags_of-byte_of}
 use Rattle.octets.specs.Put.{list_bytes}
 use Rattle.octets.specs.PutLaws.{AllBytes-words}
 use Rattle.headers.specs.Rtp.{rtp_first_of, rtp_first_byte, rtp_first, rtp_second_of, rtp_second_byte, rtp_second}
@@ -237,7 +235,8 @@ module _ {p : List ℕ} (a : AllBytes p) (f : fixed_form p ≡ true) where
 
   udp_bytes-back : udp_bytes (word_at p 24) (header_of p) ≡ places 8 20 p
   unfolding udp_bytes header_of flow_of
-  udp_bytes-back = λ i. big_endian-word_at a 20 i ++ (big_endian-word_at a 22 i ++ (big_endian-word_at a 24 i ++ big_endian-word_at a 26 i))
+  udp_bytes-back = λ i. big_endian-word_at a 20 i ++ (big_endian-word_at a 22 i ++
+      (big_endian-word_at a 24 i ++ big_endian-word_at a 26 i))
 
   rtp_fixed-back : rtp_fixed (header_of p) ≡ places 12 28 p
   unfolding rtp_fixed header_of flow_of rtp_at

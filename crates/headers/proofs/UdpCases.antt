@@ -1,6 +1,6 @@
 -- Iarwennol. Packets and their UDP checksums (rules 7.9, 11.4), worked out by hand beside the definition.
 -- One statement, by computation: it holds the definition of `udp_checksum_of` to what it is meant to say.
-use Rattle.std.specs.Prelude.{ℕ, ◌≡◌, refl, Bool, true, false, List, [], ◌∷◌, ◌++◌, map}
+use Rattle.std.specs.Prelude.{ℕ, ◌≡◌, refl, Bool, true, false, List, [], ◌∷◌, map}
 use Rattle.octets.specs.Sum.{plus}
 use Rattle.headers.specs.UdpChecksum.{udp_checksum_of, udp_right}
 

@@ -1,9 +1,9 @@
 -- Iarwennol. Laws of the UDP checksum: it has 16 bits and is never blank, so a blank one is never right. Assume nothing.
 -- Used by the function that works it out (headers_write), and by the laws of arrivals that are judged (decompressor).
-use Rattle.std.specs.Prelude.{ℕ, zero, suc, ◌+◌, ◌-◌, ◌^◌, ◌≤◌, ◌<◌, ◌≡◌, true, false, eqb, drop}
+use Rattle.std.specs.Prelude.{ℕ, zero, suc, ◌+◌, ◌-◌, ◌^◌, ◌≤◌, ◌<◌, ◌≡◌, false, drop}
 use Rattle.std.proofs.Math.Path.{refl}
-use Rattle.std.proofs.Common.{sym, ap, ◌∙◌, arith}
-use mathlib.Core.List.{List, [], ◌∷◌, ◌++◌}
+use Rattle.std.proofs.Common.{arith}
+use mathlib.Core.List.{List, [], ◌++◌}
 use borrow.Author.Tests.{ne_eqb}
 use Rattle.codes.specs.Reading.{word_at}
 use Rattle.codes.proofs.BytesRead.{word_at-big_endian}

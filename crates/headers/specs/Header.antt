@@ -1,6 +1,6 @@
 -- Iarwennol. The bytes of an IPv4/UDP/RTP header (RFC 791, 768, 3550), and the header fields that stand in some bytes.
 -- Used by the link layout of a full header (links), which has other length fields, and by both ends.
-use Rattle.std.specs.Prelude.{ℕ, zero, suc, ◌+◌, ◌-◌, ◌*◌, ◌/◌, ◌%◌, List, [], ◌∷◌, ◌++◌, drop, replicate}
+use Rattle.std.specs.Prelude.{ℕ, zero, suc, ◌+◌, ◌-◌, ◌*◌, ◌/◌, List, [], ◌∷◌, ◌++◌, drop, replicate}
 use Rattle.codes.specs.Bytes.{big_endian}
 use Rattle.codes.specs.Reading.{byte_at, word_at, long_at}
 use Rattle.packet.specs.declared.csrc.Csrc.{Csrc}
@@ -43,7 +43,14 @@ rtp_at s at = record {
 
 -- rule 5.4: both addresses, both ports, SSRC
 unfoldable pub flow_of : List ℕ → Flow
-flow_of p = record { source = long_at p 12; destination = long_at p 16; sport = word_at p 20; dport = word_at p 22; ssrc = long_at p 36 }
+flow_of p = record {
+  source = long_at p 12;
+  destination = long_at p 16;
+  sport = word_at p 20;
+  dport = word_at p 22;
+  ssrc = long_at
+      p 36;
+}
 
 -- rule 2.3: the flags that are kept are reserved bit and DF, the top two bits of byte 6
 unfoldable pub ip_of : List ℕ → Ip

@@ -1,7 +1,9 @@
 -- Iarwennol. Laws of the CSRC list and its bytes. Assume nothing.
 -- Used by the laws of the header, by the loop that reads a list, and by readers of a list elsewhere (links).
-use Rattle.std.specs.Prelude.{ℕ, zero, suc, ◌+◌, ◌-◌, ◌*◌, ◌^◌, ◌≤◌, ◌<◌, ◌≡◌, refl, List, [], ◌∷◌, ◌++◌, length, get_or, set, take, drop, replicate}
-use Rattle.std.proofs.Common.{sym, ap, ◌∙◌, add_assoc, add-one, arith, take-append-drop, length-append, length-drop, length-take-le, get_or-drop, drop-drop, take_at, drop_at}
+use Rattle.std.specs.Prelude.{ℕ, zero, suc, ◌+◌, ◌-◌, ◌*◌, ◌^◌, ◌≤◌, ◌<◌, ◌≡◌, refl, List, [], ◌∷◌, ◌++◌, length, get_or, set, take}
+use Rattle.std.specs.Prelude.{drop, replicate}
+use Rattle.std.proofs.Common.{sym, ap, ◌∙◌, add_assoc, add-one, arith, take-append-drop, length-append, length-drop, length-take-le}
+use Rattle.std.proofs.Common.{get_or-drop, drop-drop, take_at, drop_at}
 use Rattle.std.proofs.lemmas.List.{length-replicate, set_at}
 use Rattle.std.proofs.Math.Seq.{append_snoc}
 use Rattle.codes.specs.Bytes.{AllBytes, big_endian}

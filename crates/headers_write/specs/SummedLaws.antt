@@ -1,9 +1,9 @@
 -- Iarwennol. The UDP checksum of a packet is worked out from its header's summed bytes and from the rest. Assumes nothing.
 -- Used by udp_checksum.
-use Rattle.std.specs.Prelude.{ℕ, ◌+◌, ◌*◌, ◌%◌, ◌≤◌, ◌≡◌, length}
+use Rattle.std.specs.Prelude.{ℕ, ◌+◌, ◌≤◌, ◌≡◌, length}
 use Rattle.std.proofs.Math.Path.{refl, sym, ap}
 use Rattle.std.proofs.Common.{◌∙◌, arith}
-use mathlib.Core.List.{List, [], ◌∷◌, ◌++◌}
+use mathlib.Core.List.{List, ◌++◌}
 use Rattle.std.proofs.Math.ListN.{length-append}
 use Rattle.packet.specs.declared.header.Header.{Header}
 use Rattle.octets.specs.Put.{list_bytes}

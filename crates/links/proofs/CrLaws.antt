@@ -1,6 +1,6 @@
 -- Iarwennol. Laws of COMPRESSED_RTP: what was encoded is decoded, whatever comes after it. Assume nothing.
 -- Used by the theorem on lists of calls (crtp) and by links_write.
-use Rattle.std.specs.Prelude.{ℕ, ◌+◌, ◌<◌, ◌≡◌, Bool, List, [], ◌∷◌, ◌++◌, take, drop}
+use Rattle.std.specs.Prelude.{ℕ, ◌+◌, ◌<◌, ◌≡◌, Bool, List, ◌∷◌, ◌++◌, take, drop}
 use Rattle.std.proofs.Math.Path.{refl}
 use Rattle.std.proofs.Common.{sym, ap, ◌∙◌, arith}
 use Rattle.std.proofs.Math.Bool.{true, false}
@@ -29,7 +29,8 @@ use Rattle.links.proofs.SentLaws.{length_three, append-three, append-four, unsen
 use Rattle.links.proofs.SentLaws.{unsent16, unsent32, AllBytes-delta16, AllBytes-delta32}
 use Rattle.links.specs.Head.{head_bytes, context_of, head_of}
 use Rattle.links.proofs.HeadLaws.{context_of-written, head_of-written}
-use Rattle.links.specs.Cr.{cr_flags_of, cr_flags_bits, cr_sent, cr_first, cr_flags, cr_second_byte, second_bytes, deltas_bytes, cr_bytes}
+use Rattle.links.specs.Cr.{cr_flags_of, cr_flags_bits, cr_sent, cr_first, cr_flags, cr_second_byte, second_bytes, deltas_bytes}
+use Rattle.links.specs.Cr.{cr_bytes}
 use Rattle.links.specs.Cr.{all_four, second_with, second_of, deltas_of, cr_rest, cr_of}
 use Rattle.links.proofs.FitsLaws.{CrFits}
 

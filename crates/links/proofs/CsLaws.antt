@@ -1,6 +1,7 @@
 -- Iarwennol. Laws of CONTEXT_STATE: what a good request is, and that a report is one. Assume nothing.
 -- Used by the proofs of the judging functions, by the compressor's request and by the decompressor's report.
-use Rattle.std.specs.Prelude.{ℕ, zero, suc, ◌+◌, ◌-◌, ◌*◌, ◌/◌, ◌≤◌, ◌<◌, ◌≡◌, Bool, not, ◌||◌, List, [], ◌∷◌, ◌++◌, ltb, length, get_or, drop}
+use Rattle.std.specs.Prelude.{ℕ, zero, suc, ◌+◌, ◌-◌, ◌*◌, ◌/◌, ◌≤◌, ◌<◌, ◌≡◌, Bool, not, ◌||◌, List, [], ◌∷◌, ◌++◌, ltb, length}
+use Rattle.std.specs.Prelude.{get_or, drop}
 use Rattle.std.proofs.Math.Path.{refl}
 use Rattle.std.proofs.Common.{ap, ◌∙◌, add-zero, zero-add, add-one, arith, drop-drop, drop-cons}
 use Rattle.std.proofs.Math.Bool.{true, false, cond}

@@ -13,7 +13,6 @@ use Rattle.packet.specs.declared.parts.Parts.{Parts}
 use Rattle.octets.specs.Flags.{flags_of, byte_of}
 use Rattle.octets.specs.FlagsLaws.{flags_of-byte_of, byte_of-lt}
 use Rattle.packet.specs.Ranges.{PartsFit}
-use Rattle.octets.specs.declared.flags.Flags.{Flags}
 use Rattle.octets.specs.Put.{optional, list_bytes, words}
 use Rattle.octets.specs.PutLaws.{AllBytes-optional, AllBytes-words}
 use Rattle.fields.specs.Place.{good}

@@ -1,6 +1,7 @@
 -- Iarwennol. Laws of FULL_HEADER: what was encoded is judged good and read back, whatever comes after it. Assume nothing.
 -- Used by the theorem on lists of calls (crtp), by the decompressor and by refresh.
-use Rattle.std.specs.Prelude.{ℕ, ◌+◌, ◌-◌, ◌*◌, ◌/◌, ◌%◌, ◌≤◌, ◌<◌, ◌≡◌, Bool, true, false, cond, not, ◌&&◌, List, ◌++◌, leb, ltb, length}
+use Rattle.std.specs.Prelude.{ℕ, ◌+◌, ◌-◌, ◌/◌, ◌%◌, ◌≤◌, ◌<◌, ◌≡◌, Bool, true, false, cond, not, ◌&&◌, List, ◌++◌, leb, ltb}
+use Rattle.std.specs.Prelude.{length}
 use Rattle.std.proofs.Math.Path.{refl}
 use Rattle.std.proofs.Common.{sym, ◌∙◌}
 use native.Mathlib.Omega.{arith}

@@ -21,7 +21,8 @@ use Rattle.links.specs.declared.cu.CuFlags.{CuFlags}
 use Rattle.links.specs.declared.cu.CuSecond.{CuSecond}
 use Rattle.links.specs.declared.cr.CrFlags.{CrFlags}
 use Rattle.fields.proofs.NextRange.{next_byte-within, next_word-within, next_long-within, next_delta16-within, next_delta32-within}
-use Rattle.fields.proofs.NextRange.{next_payload-within, next_version-within, next_list-within, next_delta32-coded, next_payload-value}
+use Rattle.fields.proofs.NextRange.{next_payload-within, next_version-within, next_list-within, next_delta32-coded}
+use Rattle.fields.proofs.NextRange.{next_payload-value}
 use Rattle.fields.proofs.NextRange.{next_word-sendable, next_word-wanted, next_long-sendable, next_delta16-sendable}
 use Rattle.fields.proofs.NextRange.{next_delta32-sendable, next_payload-sendable, next_list-sound, next_list-range}
 use Rattle.links.specs.declared.cr.Second.{Second}

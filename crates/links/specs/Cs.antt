@@ -1,6 +1,7 @@
 -- Iarwennol. CONTEXT_STATE (rule 6.6): its bytes, and how a request of any bytes is judged (rule 9.2) and read.
 -- Used by the decompressor's report and by the compressor's request.
-use Rattle.std.specs.Prelude.{ℕ, zero, suc, ◌+◌, ◌*◌, ◌/◌, ◌<◌, ◌≡◌, Bool, true, false, cond, not, ◌||◌, List, [], ◌∷◌, ◌++◌, eqb, leb, ltb, length}
+use Rattle.std.specs.Prelude.{ℕ, zero, suc, ◌+◌, ◌*◌, ◌/◌, ◌<◌, ◌≡◌, Bool, true, false, cond, not, ◌||◌, List, [], ◌∷◌, ◌++◌, eqb}
+use Rattle.std.specs.Prelude.{leb, ltb, length}
 use Rattle.codes.specs.Numbers.{cut, forbidden, no_such_context}
 use Rattle.codes.specs.Reading.{byte_at}
 use Rattle.octets.specs.declared.flags.Flags.{Flags}

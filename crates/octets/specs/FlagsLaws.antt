@@ -3,7 +3,7 @@
 use Rattle.std.specs.Prelude.{ℕ, zero, suc, ◌+◌, ◌*◌, ◌/◌, ◌%◌, ◌≤◌, ◌<◌, ◌≡◌, refl, Bool, true, false, eqb}
 use Rattle.std.proofs.Common.{arith}
 use Rattle.octets.specs.declared.flags.Flags.{Flags}
-use Rattle.octets.specs.Flags.{flags_of, byte_of, digit, bit_at}
+use Rattle.octets.specs.Flags.{flags_of, byte_of, digit}
 
 ---- digit
 

@@ -1,7 +1,9 @@
 -- Iarwennol. Laws of the ones' complement sum. Assume nothing.
 -- Used by the proof of sum, by the checksums (headers), and wherever words are added in another order or folded at the end.
-use Rattle.std.specs.Prelude.{ℕ, zero, suc, ◌+◌, ◌-◌, ◌*◌, ◌/◌, ◌%◌, ◌^◌, ◌≤◌, ◌<◌, ◌≡◌, refl, List, [], ◌∷◌, ◌++◌, length, take, drop}
-use Rattle.std.proofs.Common.{sym, ap, ◌∙◌, add_assoc, add_comm, add-zero, add-one, arith, length-drop, drop_of_length-le, take-append-drop, drop-cons, drop-drop, length-take-le}
+use Rattle.std.specs.Prelude.{ℕ, zero, suc, ◌+◌, ◌-◌, ◌*◌, ◌/◌, ◌%◌, ◌^◌, ◌≤◌, ◌<◌, ◌≡◌, refl, List, [], ◌∷◌, ◌++◌, length, take}
+use Rattle.std.specs.Prelude.{drop}
+use Rattle.std.proofs.Common.{sym, ap, ◌∙◌, add_assoc, add_comm, add-zero, add-one, arith, length-drop, drop_of_length-le}
+use Rattle.std.proofs.Common.{take-append-drop, drop-cons, drop-drop, length-take-le}
 use Rattle.codes.specs.Bytes.{AllBytes}
 use Rattle.codes.specs.Bytes as bytes
 use Rattle.codes.specs.Reading.{byte_at, word_at}
@@ -62,7 +64,8 @@ fold_once-le t h = omega arith
 folded-fold_once : (t : ℕ) → folded (fold_once t) ≡ folded t
 unfolding folded
 folded-fold_once zero = refl
-folded-fold_once (suc t) = folded-suc (suc t % 65536 + suc t / 65536 - 1) (suc t % 65536 + suc t / 65536) (omega arith) ∙ omega arith
+folded-fold_once (suc t) = folded-suc (suc t % 65536 + suc t / 65536 - 1) (suc t % 65536 + suc t / 65536) (omega arith)
+    ∙ omega arith
 
 -- and twice for any sum of 32 bits
 fold_once-twice : (t : ℕ) → t < 2 ^ 32 → fold_once (fold_once t) ≡ folded t

@@ -12,7 +12,8 @@ use Rattle.packet.specs.declared.csrc.Csrc.{Csrc}
 use Rattle.packet.specs.declared.header.Header.{Header}
 use Rattle.links.proofs.FitsLaws.{CuFits, CrFits}
 use Rattle.links.proofs.FhLaws.{FhFits}
-use Rattle.context.specs.Compressor.{full_header, compressed_udp, compressed_rtp, Going, first_step, step_of, parts_of, list_if, begun}
+use Rattle.context.specs.Compressor.{full_header, compressed_udp, compressed_rtp, Going, first_step, step_of, parts_of, list_if}
+use Rattle.context.specs.Compressor.{begun}
 use Rattle.context.specs.Compressor.{reset, checksum_sent}
 use Rattle.context.proofs.Relation.{Held, Related, Arrives, is_full}
 use Rattle.context.specs.Sound.{sound_link, sound_compressor, empty_decompressor}
@@ -49,7 +50,8 @@ module _ (n : ℕ) (h : Header) (c : CompressorContext) where
   step_on-live e = ap (λ (u : Usage). step_by u n h c) e
 
   -- what holds of a first step and of a later one holds of both
-  pub step_on-either : (P : Going → Type 0) → P (first_step n h first_link) → (c.status ≡ Live → P (step_of n h c)) → P (step_on n h c)
+  pub step_on-either : (P : Going → Type 0) → P (first_step n h first_link) → (c.status ≡ Live → P (step_of n h c))
+      → P (step_on n h c)
   unfolding step_on
   step_on-either P a b = by c.status refl
     where
@@ -90,7 +92,8 @@ module _ (n : ℕ) (h : Header) (r : HeaderInRange h) where
       }
 
   writable-live : (c : CompressorContext) → sound_compressor n c ≡ true → c.status ≡ Live → Writable h (step_of n h c)
-  writable-live c s u = writable-from (step_of n h c) (sound_link-bounds (step_of n h c).link (link-step n h c u s)) (list-step n h c)
+  writable-live c s u = writable-from (step_of n h c) (sound_link-bounds (step_of n h c).link (link-step n h c u s))
+      (list-step n h c)
 
   -- what a sound context sends can be written
   pub writable-step_on : (c : CompressorContext) → sound_compressor n c ≡ true → Writable h (step_on n h c)

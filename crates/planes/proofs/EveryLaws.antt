@@ -1,6 +1,6 @@
 -- Iarwennol. Laws of a test that every place passes. Assume nothing.
 -- Used by the walks over a table: a loop over a plane, and planes first or places first.
-use Rattle.std.specs.Prelude.{ℕ, zero, suc, ◌+◌, ◌≤◌, ◌<◌, ◌≡◌, refl, List, [], ◌∷◌, Bool, true, false, ◌&&◌, ◌||◌, eqb, ltb, drop}
+use Rattle.std.specs.Prelude.{ℕ, zero, suc, ◌+◌, ◌≤◌, ◌<◌, ◌≡◌, refl, Bool, true, false, ◌&&◌, ◌||◌, eqb, ltb, drop}
 use Rattle.std.proofs.Common.{sym, ◌∙◌, ap, add-one, add-zero, arith, eqb-true, lt-ltb, le-ltb, ltb-true, ltb-false}
 use Rattle.std.proofs.Math.Bool.{and-true, and_assoc, and-eq-true_iff}
 use Rattle.std.proofs.lemmas.Bool.{eqb-false}

@@ -1,9 +1,11 @@
 -- Iarwennol. Laws of planes: a row that is replaced is read back, and no other changes. Assume nothing.
 -- Used by the reading and writing of contexts.
-use Rattle.std.specs.Prelude.{ℕ, zero, suc, ◌+◌, ◌*◌, ◌<◌, ◌≤◌, ◌≢◌, ◌≡◌, refl, List, [], ◌∷◌, ◌++◌, length, get_or, set, take, drop, replicate}
-use Rattle.std.proofs.Common.{sym, ap, ◌∙◌, add-one, add-zero, zero-add, arith, length-set, drop_of_length-le, drop-cons, get_or-set_same, get_or-set_other, set-set, take-suc-set, take_all}
+use Rattle.std.specs.Prelude.{ℕ, zero, suc, ◌+◌, ◌*◌, ◌<◌, ◌≤◌, ◌≢◌, ◌≡◌, refl, List, [], ◌∷◌, ◌++◌, length, get_or, set, take}
+use Rattle.std.specs.Prelude.{drop, replicate}
+use Rattle.std.proofs.Common.{sym, ap, ◌∙◌, add-one, add-zero, zero-add, arith, length-set, drop_of_length-le, drop-cons}
+use Rattle.std.proofs.Common.{get_or-set_same, get_or-set_other, set-set, take-suc-set, take_all}
 use Rattle.std.proofs.lemmas.List.{replicate-append-replicate, set-get_or, set_comm}
-use Rattle.planes.specs.Planes.{cell, row, replaced, places}
+use Rattle.planes.specs.Planes.{row, replaced, places}
 
 pub length-replaced : (vs l : List ℕ) (i f : ℕ) → length (replaced l i f vs) ≡ length l
 length-replaced [] l i f = refl

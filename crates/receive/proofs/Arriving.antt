@@ -24,7 +24,8 @@ module _ (form : OldForm) (kind : ℕ) (t : Table) (s output : List ℕ) where
   unfolding receive_kind
   kind-full n e = rw (ne_eqb kind 0 n, eq-eqb kind 1 e)
 
-  pub kind-compressed : (kind ≡ 0 → ⊥) → (kind ≡ 1 → ⊥) → receive_compressed form kind t s output ≡ receive_kind form kind t s output
+  pub kind-compressed : (kind ≡ 0 → ⊥) → (kind ≡ 1 → ⊥) → receive_compressed form kind t s output
+      ≡ receive_kind form kind t s output
   unfolding receive_kind
   kind-compressed n e = rw (ne_eqb kind 0 n, ne_eqb kind 1 e)
 

@@ -1,6 +1,6 @@
 -- Iarwennol. What a sound context rebuilds can be written. Assume nothing.
 -- Used by the functions that hand a header to the writer, which asks that its narrow fields are in range.
-use Prim.Native.Nat.{ℕ, ◌≤◌, ◌<◌}
+use Prim.Native.Nat.{ℕ, ◌<◌}
 use mathlib.Core.Path.{◌≡◌, refl}
 use mathlib.Core.Bool.{Bool, true, false, cond}
 use native.Mathlib.Omega.{arith}

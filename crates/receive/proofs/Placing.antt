@@ -2,7 +2,7 @@
 -- nothing.
 -- Used by the proofs of receive_compressed and accept_full.
 use Prim.Native.Nat.{ℕ, ◌≤◌, ◌<◌}
-use mathlib.Core.Path.{◌≡◌, refl, sym, ap, ◌∙◌}
+use mathlib.Core.Path.{◌≡◌, sym, ap, ◌∙◌}
 use mathlib.Core.List.{List}
 use native.Mathlib.Omega.{arith}
 use lib.ListN.{length, get_or, set}
@@ -13,7 +13,6 @@ use Rattle.links.specs.Head.{head_of}
 use Rattle.packet.specs.Refusal.{number_of}
 use Rattle.packet.specs.RefusalLaws.{number_of-refused}
 use Rattle.packet.specs.declared.refusal.Refusal.{Refusal}
-use Rattle.context.specs.declared.decompressor.Status.{Status}
 use Rattle.context.specs.declared.decompressor.DecompressorContext.{DecompressorContext}
 use Rattle.decompressor.specs.declared.answer.Outcome.TheVariants.{Accepted, Refused}
 use Rattle.decompressor.specs.declared.old.OldForm.{OldForm}

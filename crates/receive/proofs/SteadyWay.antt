@@ -1,12 +1,12 @@
 -- Iarwennol. The short way of an arrival leads where the rules do. Assumes nothing.
 -- Used by the proofs of the functions on that way, and of receive_compressed, which chooses it.
-use Prim.Native.Nat.{ℕ, ◌+◌, ◌-◌, ◌≤◌, ◌<◌}
+use Prim.Native.Nat.{ℕ, ◌+◌, ◌-◌, ◌≤◌}
 use mathlib.Core.Path.{◌≡◌, refl, sym, ap, ◌∙◌}
 use mathlib.Core.Bool.{Bool, true, false, cond, not, ◌&&◌, ◌||◌, and-false, and-eq-true_iff, false≢true}
 use mathlib.Core.List.{List}
 use native.Mathlib.Omega.{arith}
 use borrow.Author.Tests.{not-true, not-false, leb-true, le-ltb}
-use lib.Dec.{eqb, leb, ltb}
+use lib.Dec.{eqb, leb}
 use lib.ListN.{length, drop, length-drop}
 use Rattle.octets.specs.Put.{Wrote}
 use Rattle.octets.specs.PutLaws.{wrote-front}
@@ -27,10 +27,8 @@ use Rattle.links.specs.declared.head.ReadParts.{ReadParts}
 use Rattle.links.specs.Head.{head_of}
 use Rattle.links.specs.Cr.{cr_flags_of, second_with, second_of, deltas_of, cr_rest, cr_of}
 use Rattle.context.specs.Decompressor.{accepted_as, Effect, applied, checksum_read, rebuilt}
-use Rattle.context.specs.Sound.{sound_decompressor}
 use Rattle.decompressor_steady.specs.Steady.{is_next, moved_to, one_step_on}
 use Rattle.context.specs.declared.decompressor.Status.{Status}
-use Rattle.context.specs.declared.decompressor.Status.TheVariants.{Live}
 use Rattle.context.specs.declared.decompressor.DecompressorContext.{DecompressorContext}
 use Rattle.decompressor_steady.proofs.Rules.{Next, is_next-true, one_step_on-moved, bare_parts, applied-bare}
 use Rattle.decompressor.specs.declared.answer.Outcome.TheVariants.{Accepted}
@@ -47,7 +45,7 @@ use Rattle.receive.specs.declared.steady.SteadyRead.{SteadyRead}
 use Rattle.receive.specs.Taken.{Found, found_on}
 use Rattle.receive.specs.Steady.{is_steady, word_past, Steadily, delivered_on}
 use Rattle.receive.proofs.NarrowLaws.{rebuilt-narrow}
-use Rattle.receive.proofs.Placing.{here, head-here, gives-full}
+use Rattle.receive.proofs.Placing.{head-here, gives-full}
 
 ---- is_steady
 
@@ -180,7 +178,8 @@ module _ (c : DecompressorContext) (sent : ℕ) (none : c.csrc.count ≡ 0) wher
       let n = length-bare rest in
       let r = at_most (40 + length rest) (length (packet_of (rebuilt c sent) rest)) (length before) n room in
       gives-full l after i (40 + length rest) c out (delivered_on (table_of l) i c sent rest before) p
-      (said-accepted (table_of l) (with_context (table_of l) i c) (packet_of (rebuilt c sent) rest) before (40 + length rest) out r n
+      (said-accepted (table_of l) (with_context (table_of l) i c) (packet_of (rebuilt c sent) rest) before (40 + length rest) out r
+      n
       (wrote-front (rw e at w) r))
 
 ---- one_step_on, from a context that was found

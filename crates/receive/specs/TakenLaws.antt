@@ -1,6 +1,7 @@
 -- Iarwennol. Laws of an arrival on a copy of its context: the copy, stored back as it was, leaves the table. Assume nothing.
 -- Used by the functions that work on such a copy.
-use Rattle.std.specs.Prelude.{ℕ, zero, suc, ◌+◌, ◌≤◌, ◌<◌, ◌≡◌, refl, Bool, true, false, cond, not, ◌&&◌, List, [], ◌∷◌, eqb, ltb, length, get_or, set}
+use Rattle.std.specs.Prelude.{ℕ, zero, suc, ◌+◌, ◌≤◌, ◌<◌, ◌≡◌, refl, Bool, true, false, cond, not, ◌&&◌, List, [], ◌∷◌, eqb, ltb}
+use Rattle.std.specs.Prelude.{length, get_or, set}
 use Rattle.std.proofs.Math.Path.{sym, ap}
 use Rattle.std.proofs.Common.{◌∙◌, arith, lt-ltb, le-ltb}
 use Rattle.std.proofs.lemmas.Bool.{false≢true}
@@ -34,7 +35,7 @@ use Rattle.decompressor.specs.Receive.{packet_of, is_disproved, rebuild_to, sett
 use Rattle.decompressor.specs.Receive.{receive_udp, receive_rtp, receive_on}
 use Rattle.decompressor.specs.declared.old.OldForm.{OldForm}
 use Rattle.decompressor.specs.declared.old.OldForm.TheVariants as old
-use Rattle.receive.specs.Taken.{placed, Takes, Arrives, left_broken, HeadRead}
+use Rattle.receive.specs.Taken.{Takes, Arrives, left_broken, HeadRead}
 
 ---- with_context
 

@@ -1,12 +1,15 @@
 -- Iarwennol. Laws of the context-state report: its records one context at a time, and that it is a good request. Assume nothing.
 -- Used by the loops of report.
-use Rattle.std.specs.Prelude.{ℕ, zero, suc, ◌+◌, ◌-◌, ◌*◌, ◌≤◌, ◌<◌, ◌≡◌, refl, Bool, true, false, cond, not, ◌&&◌, List, [], ◌∷◌, ◌++◌, eqb, ltb, length, get_or, take, drop}
-use Rattle.std.proofs.Common.{sym, ap, ◌∙◌, add-zero, zero-add, add-one, arith, eqb-true, length-append, take-append-drop, take-suc, take_all, length-take-le}
+use Rattle.std.specs.Prelude.{ℕ, zero, suc, ◌+◌, ◌-◌, ◌*◌, ◌≤◌, ◌<◌, ◌≡◌, refl, Bool, true, false, cond, not, ◌&&◌, List, [], ◌∷◌}
+use Rattle.std.specs.Prelude.{◌++◌, eqb, ltb, length, get_or, take, drop}
+use Rattle.std.proofs.Common.{sym, ap, ◌∙◌, add-zero, zero-add, add-one, arith, eqb-true, length-append, take-append-drop, take-suc}
+use Rattle.std.proofs.Common.{take_all, length-take-le}
 use Rattle.std.proofs.lemmas.Bool.{false≢true}
 use Rattle.std.proofs.Math.Bool.{and-eq-true_iff}
 use Rattle.std.proofs.Math.Nat.{sub-zero}
 use Rattle.links.specs.Cs.{State, records_bytes, cs_bytes, request_judged}
-use Rattle.links.proofs.CsLaws.{StateFits, StatesFit, none-fit, more-fit, length-records_bytes, length-cs_bytes, records_bytes-append}
+use Rattle.links.proofs.CsLaws.{StateFits, StatesFit, none-fit, more-fit, length-records_bytes, length-cs_bytes}
+use Rattle.links.proofs.CsLaws.{records_bytes-append}
 use Rattle.links.proofs.CsLaws.{request_judged-cs_bytes}
 use Rattle.context.specs.All.{all}
 use Rattle.context.specs.Sound.{zero_flow, zero_ip, zero_rtp, zero_list, zero_deltas, zero_link, filled_sound, unfilled_sound}
@@ -31,11 +34,13 @@ by-broken : (z : Bool) (r : State) (xs ys zs : List State) → xs ≡ ys ++ zs �
 by-broken true r xs ys zs e = ap {B = List State} (λ l. r ∷ l) e
 by-broken false r xs ys zs e = e
 
-states_from-append : (k : ℕ) (a b : List DecompressorContext) → states_from k (a ++ b) ≡ states_from k a ++ states_from (k + length a) b
+states_from-append : (k : ℕ) (a b : List DecompressorContext) → states_from k (a ++ b)
+    ≡ states_from k a ++ states_from (k + length a) b
 states_from-append k [] b = rw add-zero
 states_from-append k (c ∷ a) b =
     let e : k + suc (length a) ≡ suc k + length a = omega arith in
-    by-broken (is_broken c) (state_of k c) (states_from (suc k) (a ++ b)) (states_from (suc k) a) (states_from (k + suc (length a)) b)
+    by-broken (is_broken c) (state_of k c) (states_from (suc k) (a ++ b)) (states_from (suc k) a)
+    (states_from (k + suc (length a)) b)
     (rw e (states_from-append (suc k) a b))
 
 module _ (l : List DecompressorContext) (i : ℕ) where
@@ -168,7 +173,8 @@ module _ (t : Table) (output : List ℕ) (sound : sound_of t ≡ true) where
 
 ---- a report changes nothing
 
-table-by : (z : Bool) (t : Table) (n : ℕ) (bytes output : List ℕ) → (cond z (refused t n output) (accepted t bytes output)).table ≡ t
+table-by : (z : Bool) (t : Table) (n : ℕ) (bytes output : List ℕ) → (cond z (refused t n output) (accepted t bytes output)).table
+    ≡ t
 table-by true t n bytes output = refl
 table-by false t n bytes output = refl
 

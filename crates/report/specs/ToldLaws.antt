@@ -1,6 +1,6 @@
 -- Iarwennol. The bytes of a table that is lent tell all that a report says. Assume nothing.
 -- Used by the proofs of report.
-use Rattle.std.specs.Prelude.{ℕ, zero, suc, ◌+◌, ◌≤◌, ◌<◌, ◌≡◌, Bool, true, false, eqb, leb, ltb, length, get_or}
+use Rattle.std.specs.Prelude.{ℕ, zero, suc, ◌+◌, ◌≤◌, ◌<◌, ◌≡◌, Bool, true, false, eqb, ltb, length, get_or}
 use Rattle.std.proofs.Math.Path.{refl, ap}
 use Rattle.std.proofs.Common.{sym, ◌∙◌, arith, eqb-true, le-leb, lt-ltb, le-ltb}
 use Rattle.std.proofs.Math.Bool.{cond}
@@ -9,12 +9,11 @@ use Rattle.std.proofs.lemmas.Bool.{eqb-false}
 use Rattle.links.specs.Cs.{State, records_bytes}
 use Rattle.context.specs.declared.decompressor.Status.TheVariants.{Empty, Live, Broken}
 use Rattle.context.specs.declared.decompressor.DecompressorContext.{DecompressorContext}
-use Rattle.context.specs.Sound.{sound_decompressor}
 use Rattle.planes.specs.Planes.{Lent, cell, row, places, every}
 use Rattle.planes.proofs.PlanesLaws.{places-at, length-places}
 use Rattle.planes.proofs.EveryLaws.{every_made}
 use Rattle.decompressor.specs.declared.table.Table.{Table}
-use Rattle.decompressor.specs.Table.{no_context, context_at, sound_of, Sound}
+use Rattle.decompressor.specs.Table.{no_context, context_at, Sound}
 use Rattle.decompressor.proofs.TableLaws.{sound-context_at}
 use Rattle.decompressor_table.specs.Layout.{status_of, context_of, context_in, plane_table, table_of, Fits}
 use Rattle.decompressor_table.specs.LayoutLaws.{table_of-fits, table_of-at}

@@ -1,16 +1,15 @@
 -- Iarwennol. One record more of a request, on a table that is lent. Assumes nothing.
 -- Used by the loop over the records.
-use Prim.Native.Nat.{ℕ, ◌+◌, ◌<◌, ◌≤◌}
+use Prim.Native.Nat.{ℕ, ◌+◌, ◌<◌}
 use mathlib.Core.Path.{◌≡◌, refl, sym, ap, ◌∙◌}
 use mathlib.Core.Bool.{Bool, cond}
 use mathlib.Core.List.{List}
-use lib.ListN.{get_or, set}
-use Rattle.settings.specs.declared.Settings.{Settings}
+use lib.ListN.{get_or}
 use Rattle.links.specs.Cs.{record_context, record_asks}
 use Rattle.context.specs.Compressor.{requested}
 use Rattle.context.specs.declared.compressor.CompressorContext.{CompressorContext}
 use Rattle.compressor.specs.declared.table.Table.{Table}
-use Rattle.compressor.specs.Table.{no_context, context_at, with_context}
+use Rattle.compressor.specs.Table.{context_at}
 use Rattle.compressor.specs.Request.{asked_all}
 use Rattle.compressor.proofs.RequestLaws.{asked_all-more}
 use Rattle.planes.specs.Planes.{Lent}

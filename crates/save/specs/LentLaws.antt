@@ -72,4 +72,5 @@ module _ (l : Lent) (s : sound_of (table_of l) ≡ true) where
         → Wrote output out 0 r (big_endian 2 (3 + n) ++ (front_bytes (settings_in l) ++ records (settings_in l)))
         → said (Accepted (2 + (3 + n))) (table_of l) out ≡ save_of (table_of l) output
     lent-accepted out r h w = save-accepted (table_of l) output s n same_size out r h
-        (subst (λ (x : Settings). Wrote output out 0 r (big_endian 2 (3 + n) ++ (front_bytes x ++ records x))) (sym settings-lent) w)
+        (subst (λ (x : Settings). Wrote output out 0 r (big_endian 2 (3 + n) ++ (front_bytes x ++ records x))) (sym settings-lent)
+        w)

@@ -13,7 +13,8 @@ use Rattle.context.specs.declared.decompressor.DecompressorContext.{Decompressor
 use Rattle.decompressor.specs.declared.table.Table.{Table}
 use Rattle.decompressor.specs.Answer.{Result, accepted, refused}
 use Rattle.decompressor.specs.Table.{unopened}
-use Rattle.saves.specs.Saves.{checked, next_up_to, kept_form, header_from, record_bytes, fixed_of, size_allowed, context_of, record_of}
+use Rattle.saves.specs.Saves.{checked, next_up_to, kept_form, header_from, record_bytes, fixed_of, size_allowed, context_of}
+use Rattle.saves.specs.Saves.{record_of}
 use Rattle.saves.specs.Saves.{whole_of, front_of, saved_bytes, load_of}
 
 ---- The files
@@ -160,8 +161,10 @@ pub record Cases : Type 0 where
   pub any-delta : (changed 8 0xFF).number ≡ 0
 
 pub cases : Cases
-unfolding has_code read_byte read_word read_long fixed_form rtp_at flow_of ip_of header_of ip_front ip_back udp_bytes rtp_fixed header_bytes next
-    next_byte next_word next_long rebuilt empty_decompressor checked next_up_to kept_form header_from record_bytes fixed_of size_allowed
+unfolding has_code read_byte read_word read_long fixed_form rtp_at flow_of ip_of header_of ip_front ip_back udp_bytes rtp_fixed
+    header_bytes next
+    next_byte next_word next_long rebuilt empty_decompressor checked next_up_to kept_form header_from record_bytes fixed_of
+    size_allowed
     context_of record_of whole_of front_of saved_bytes load_of
 cases = record {
   save-empty = refl;

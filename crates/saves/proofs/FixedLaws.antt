@@ -20,7 +20,8 @@ use Rattle.context.proofs.SoundFacts.{has_code-zero}
 use Rattle.saves.specs.declared.read.Fixed.{Fixed}
 use Rattle.saves.specs.Saves.{allowed, next_up_to, fixed_of}
 use Rattle.saves.proofs.StepLaws.{Goes, checked-passed, allowed-goes, next_byte-goes, next_word-goes, next_long-goes}
-use Rattle.saves.proofs.StepLaws.{next_up_to-goes, next_byte-took, next_word-took, next_long-took, next_up_to-took, next_up_to-written}
+use Rattle.saves.proofs.StepLaws.{next_up_to-goes, next_byte-took, next_word-took, next_long-took, next_up_to-took}
+use Rattle.saves.proofs.StepLaws.{next_up_to-written}
 use Rattle.saves.proofs.StepLaws.{next_byte-unwanted, next_word-unwanted, next_long-unwanted, next_up_to-unwanted}
 
 abbrev pub fixed : (at state generation sequence did dts size : ℕ) → Fixed
@@ -216,7 +217,8 @@ module _ (s : List ℕ) (at : ℕ) (x : Goes (fixed_of s (good at)).place) where
 
     -- together
     used-same : fixed_of s (good at)
-        ≡ fixed (at + 1 + 1 + 1 + 2 + 4 + 1) (byte_at s at) (byte_at s (at + 1)) (byte_at s (at + 1 + 1)) (word_at s (at + 1 + 1 + 1))
+        ≡ fixed (at + 1 + 1 + 1 + 2 + 4 + 1) (byte_at s at) (byte_at s (at + 1)) (byte_at s (at + 1 + 1))
+        (word_at s (at + 1 + 1 + 1))
         (long_at s (at + 1 + 1 + 1 + 2)) (byte_at s (at + 1 + 1 + 1 + 2 + 4))
     unfolding fixed_of
     used-same = λ i. record {

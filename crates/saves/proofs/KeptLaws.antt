@@ -18,7 +18,8 @@ use Rattle.packet.specs.Ranges.{HeaderInRange}
 use Rattle.packet.specs.declared.header.Header.{Header}
 use Rattle.headers.specs.Header.{count_at, rtp_at, header_of, header_bytes, size_with, header_size}
 use Rattle.headers.specs.Compressible.{fixed_form}
-use Rattle.headers.proofs.HeaderLaws.{count_at-header_bytes, header_of-header_bytes, ip_length-header_bytes, udp_length-header_bytes}
+use Rattle.headers.proofs.HeaderLaws.{count_at-header_bytes, header_of-header_bytes, ip_length-header_bytes}
+use Rattle.headers.proofs.HeaderLaws.{udp_length-header_bytes}
 use Rattle.headers.proofs.HeaderLaws.{ip_checksum-header_bytes, fixed_form-header_bytes, length-header_bytes, header_of-range}
 use Rattle.headers.proofs.HeaderLaws.{header_bytes-header_of}
 use Rattle.fields.specs.Place.{good, stopped}
@@ -60,7 +61,8 @@ module _ (h : Header) (r : HeaderInRange h) (m : marked h.checksum ≡ true) whe
   header-bytes : header_of (kept_bytes h) ≡ h
   header-bytes = ap header_of (sym (append-nil (kept_bytes h))) ∙ header_of-header_bytes 0 0 0 h [] r
 
-  formed-bytes : (at : ℕ) → formed_header at (header_size h) (kept_bytes h) ≡ record { place = good (at + header_size h); header = h }
+  formed-bytes : (at : ℕ) → formed_header at (header_size h) (kept_bytes h)
+      ≡ record { place = good (at + header_size h); header = h }
   formed-bytes at = rw (kept_form-bytes, header-bytes)
 
   module _ (s : List ℕ) (at : ℕ) (l : List ℕ) (e : drop at s ≡ kept_bytes h ++ l) where

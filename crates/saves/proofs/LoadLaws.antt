@@ -3,7 +3,8 @@
 -- Used by nobody: they hold the two directions of the format together.
 use Rattle.std.specs.Prelude.{ℕ, zero, suc, ◌+◌, ◌≤◌, ◌<◌, ◌≡◌, Bool, true, false, cond, eqb, leb, length, get_or, set, take}
 use Rattle.std.proofs.Math.Path.{refl, ap}
-use Rattle.std.proofs.Common.{sym, subst, ◌∙◌, true≢false, add-one, arith, eqb-true, leb-true, le-leb, length-set, length-drop, drop_of_length-le, drop-drop, drop-set-lt, take-suc-set}
+use Rattle.std.proofs.Common.{sym, subst, ◌∙◌, true≢false, add-one, arith, eqb-true, leb-true, le-leb, length-set, length-drop}
+use Rattle.std.proofs.Common.{drop_of_length-le, drop-drop, drop-set-lt, take-suc-set}
 use mathlib.Core.List.{List, [], ◌∷◌, ◌++◌, append_assoc, append-nil}
 use Rattle.std.proofs.Math.ListN.{drop}
 use Rattle.std.proofs.lemmas.List.{length-replicate}
@@ -33,7 +34,8 @@ use Rattle.decompressor.proofs.TableLaws.{range-empty_table}
 use Rattle.saves.specs.declared.read.Front.{Front}
 use Rattle.saves.specs.declared.read.GotContext.{GotContext}
 use Rattle.saves.specs.declared.read.GotContexts.{GotContexts}
-use Rattle.saves.specs.Saves.{checked, allowed, next_up_to, record_bytes, records_bytes, record_of, records_of, with_record, whole_of}
+use Rattle.saves.specs.Saves.{checked, allowed, next_up_to, record_bytes, records_bytes, record_of, records_of, with_record}
+use Rattle.saves.specs.Saves.{whole_of}
 use Rattle.saves.specs.Saves.{front_of, body_bytes, saved_bytes, settled, load_records, load_of}
 use Rattle.saves.proofs.StepLaws.{Goes, checked-goes, allowed-goes, checked-passed, next_byte-goes, next_up_to-goes}
 use Rattle.saves.proofs.StepLaws.{next_byte-took, next_word-took, next_up_to-took}
@@ -199,7 +201,8 @@ module _ (s : List ℕ) where
         ∙ ap (λ (p : Place). next_up_to s p true 14) (checked-passed version.place forbidden)
         ∙ ap (λ (g : Got8). next_up_to s g.place true 14) version-is
 
-    repeats-took : (3 + 1 ≤ length s) × (byte_at s 3 ≤ 14) × (next_up_to s (good 3) true 14 ≡ got8 (step (good 4) true (byte_at s 3)))
+    repeats-took : (3 + 1 ≤ length s) × (byte_at s 3 ≤ 14) × (next_up_to s (good 3) true 14
+        ≡ got8 (step (good 4) true (byte_at s 3)))
     repeats-took = next_up_to-took s 3 14 (rw repeats-step at goes-repeats)
 
     repeats-is : repeats ≡ got8 (step (good 4) true (byte_at s 3))
@@ -208,7 +211,8 @@ module _ (s : List ℕ) where
     contexts-step : contexts ≡ next_up_to s (good 4) true 64
     contexts-step = ap (λ (g : Got8). next_up_to s g.place true 64) repeats-is
 
-    contexts-took : (4 + 1 ≤ length s) × (byte_at s 4 ≤ 64) × (next_up_to s (good 4) true 64 ≡ got8 (step (good 5) true (byte_at s 4)))
+    contexts-took : (4 + 1 ≤ length s) × (byte_at s 4 ≤ 64) × (next_up_to s (good 4) true 64
+        ≡ got8 (step (good 5) true (byte_at s 4)))
     contexts-took = next_up_to-took s 4 64 (rw contexts-step at goes-contexts.0)
 
     contexts-is : contexts ≡ got8 (step (good 5) true (byte_at s 4))

@@ -1,8 +1,10 @@
 -- Iarwennol. Laws of a record that was read: it stands for a sound context, and that context is written as these very bytes. Assume
 -- nothing. Used by the laws of what is loaded.
-use Rattle.std.specs.Prelude.{ℕ, ◌+◌, ◌%◌, ◌≤◌, ◌≡◌, Bool, false, cond, not, ◌&&◌, ◌||◌, List, [], ◌∷◌, ◌++◌, eqb, leb, length, take, drop}
+use Rattle.std.specs.Prelude.{ℕ, ◌+◌, ◌%◌, ◌≤◌, ◌≡◌, Bool, false, cond, not, ◌&&◌, ◌||◌, List, [], ◌∷◌, ◌++◌, eqb, leb, length}
+use Rattle.std.specs.Prelude.{take, drop}
 use Rattle.std.proofs.Math.Path.{refl}
-use Rattle.std.proofs.Common.{sym, ap, subst, ◌∙◌, add-one, arith, eqb-true, leb-true, take-append-drop, length-drop, drop-drop, drop-cons, length-take-le}
+use Rattle.std.proofs.Common.{sym, ap, subst, ◌∙◌, add-one, arith, eqb-true, leb-true, take-append-drop, length-drop, drop-drop}
+use Rattle.std.proofs.Common.{drop-cons, length-take-le}
 use Rattle.std.proofs.Math.Bool.{true}
 use Rattle.std.proofs.lemmas.Bool.{eqb-false}
 use Rattle.codes.specs.Bytes.{AllBytes, big_endian}
@@ -18,7 +20,8 @@ use Rattle.fields.specs.declared.place.Place.{Place}
 use Rattle.fields.specs.Place.{good}
 use Rattle.context.specs.Decompressor.{rebuilt}
 use Rattle.context.specs.Ranges.{ContextInRange}
-use Rattle.context.specs.Sound.{sound_decompressor, sound_decompressor_by, filled_sound, unfilled_sound, zero_list, empty_decompressor}
+use Rattle.context.specs.Sound.{sound_decompressor, sound_decompressor_by, filled_sound, unfilled_sound, zero_list}
+use Rattle.context.specs.Sound.{empty_decompressor}
 use Rattle.context.specs.declared.decompressor.Status.{Status}
 use Rattle.context.specs.declared.decompressor.Status.TheVariants.{Empty, Live, Broken}
 use Rattle.context.specs.declared.decompressor.DecompressorContext.{DecompressorContext}

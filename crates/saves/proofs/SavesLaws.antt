@@ -1,9 +1,11 @@
 -- Iarwennol. Loading what was saved gives the same table, whatever table is handed in (rule 14.8). Assumes nothing; that numbers
 -- are within their types, which a definition cannot see, is asked of the table.
 -- Used by the theorem on lists of calls (crtp).
-use Rattle.std.specs.Prelude.{ℕ, zero, suc, ◌+◌, ◌-◌, ◌^◌, ◌≤◌, ◌<◌, ◌≡◌, Bool, false, cond, not, List, [], ◌∷◌, ◌++◌, ltb, length, get_or, set, take, drop, replicate}
+use Rattle.std.specs.Prelude.{ℕ, zero, suc, ◌+◌, ◌-◌, ◌^◌, ◌≤◌, ◌<◌, ◌≡◌, Bool, false, cond, not, List, [], ◌∷◌, ◌++◌, ltb, length}
+use Rattle.std.specs.Prelude.{get_or, set, take, drop, replicate}
 use Rattle.std.proofs.Math.Path.{refl}
-use Rattle.std.proofs.Common.{sym, ap, ◌∙◌, append_assoc, append-nil, add_assoc, add-zero, add-one, arith, length-append, length-drop, take-append-drop, take-suc, length-take-le, get_or-drop}
+use Rattle.std.proofs.Common.{sym, ap, ◌∙◌, append_assoc, append-nil, add_assoc, add-zero, add-one, arith, length-append}
+use Rattle.std.proofs.Common.{length-drop, take-append-drop, take-suc, length-take-le, get_or-drop}
 use Rattle.std.proofs.Math.Bool.{true, and-eq-true_iff}
 use borrow.Author.Tests.{eq-eqb, le-leb, not-true}
 use Rattle.std.proofs.lemmas.List.{set_at}

@@ -1,7 +1,8 @@
 -- Iarwennol. Laws of a saved table's size: the parts of a record, the records one context at a time, and the most that a table
 -- takes. Assume nothing.
 -- Used by the proofs of save, which works the size out before it writes, and by those who hand it an output (crtp).
-use Rattle.std.specs.Prelude.{ℕ, zero, suc, ◌+◌, ◌*◌, ◌≤◌, ◌<◌, ◌≡◌, refl, Bool, true, false, cond, not, List, [], ◌∷◌, ◌++◌, eqb, length, get_or, take}
+use Rattle.std.specs.Prelude.{ℕ, zero, suc, ◌+◌, ◌*◌, ◌≤◌, ◌<◌, ◌≡◌, refl, Bool, true, false, cond, not, List, [], ◌∷◌, ◌++◌, eqb}
+use Rattle.std.specs.Prelude.{length, get_or, take}
 use Rattle.std.proofs.Common.{sym, ap, ◌∙◌, append-nil, append_assoc, add-one, arith, eqb-true, length-append, take-suc}
 use Rattle.std.proofs.Math.Bool.{and-eq-true_iff}
 use Rattle.packet.specs.Ranges.{Narrow}
@@ -105,7 +106,8 @@ record_bytes-most c e = record_by-most c.status c (kept-narrow c e)
 pub records_bytes-append : (a b : List DecompressorContext) → records_bytes (a ++ b) ≡ records_bytes a ++ records_bytes b
 records_bytes-append [] b = refl
 records_bytes-append (c ∷ a) b =
-    ap (λ l. record_bytes c ++ l) (records_bytes-append a b) ∙ sym (append_assoc (record_bytes c) (records_bytes a) (records_bytes b))
+    ap (λ l. record_bytes c ++ l) (records_bytes-append a b) ∙ sym (append_assoc (record_bytes c) (records_bytes a)
+    (records_bytes b))
 
 module _ (l : List DecompressorContext) (i : ℕ) where
   -- one context more
@@ -124,7 +126,11 @@ records_bytes-few l (suc i) zero h = absurd (omega arith)
 records_bytes-few [] (suc i) (suc n) h = omega arith
 records_bytes-few (c ∷ l) (suc i) (suc n) h =
     let f = records_bytes-few l i n (omega arith) in
-    omega (arith, length-append (record_bytes c) (records_bytes (take i l)), length-append (record_bytes c) (records_bytes (take n l)))
+    omega (
+      arith,
+      length-append (record_bytes c) (records_bytes (take i l)),
+      length-append (record_bytes c) (records_bytes (take n l)),
+    )
 
 pub records_bytes-most : (l : List DecompressorContext) (n : ℕ) → all sound_decompressor l ≡ true
     → length (records_bytes (take n l)) ≤ 110 * n

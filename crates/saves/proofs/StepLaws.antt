@@ -7,7 +7,8 @@ use Rattle.std.proofs.Math.Bool.{true}
 use Rattle.std.proofs.lemmas.Bool.{false≢true}
 use borrow.Author.Tests.{le-leb, leb-true}
 use Rattle.codes.specs.Numbers.{cut, forbidden}
-use Rattle.codes.specs.Reading.{Reading, accepted, refused, has, byte_at, word_at, long_at, field_at, read_byte, read_word, read_long}
+use Rattle.codes.specs.Reading.{Reading, accepted, refused, has, byte_at, word_at, long_at, field_at, read_byte, read_word}
+use Rattle.codes.specs.Reading.{read_long}
 use Rattle.packet.specs.Refusal.{is_accepted, verdict_of}
 use Rattle.packet.specs.declared.refusal.Verdict.{Verdict}
 use Rattle.packet.specs.declared.refusal.Verdict.TheVariants.{Accepted, Refused}

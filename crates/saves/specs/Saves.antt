@@ -1,7 +1,8 @@
 -- Iarwennol. A saved table (rules 14.1 to 14.7): its bytes, and what bytes stand for. Part by part in the order of the layout,
 -- each with what a save writes there and what a load takes there.
 -- Used by the contracts of save and load, and by the theorem on lists of calls (crtp), which is about these very definitions.
-use Rattle.std.specs.Prelude.{ℕ, zero, suc, ◌+◌, ◌%◌, Bool, true, false, cond, not, ◌&&◌, ◌||◌, List, [], ◌∷◌, ◌++◌, eqb, leb, length, set, take, drop, replicate}
+use Rattle.std.specs.Prelude.{ℕ, zero, suc, ◌+◌, ◌%◌, Bool, true, false, cond, not, ◌&&◌, ◌||◌, List, [], ◌∷◌, ◌++◌, eqb, leb}
+use Rattle.std.specs.Prelude.{length, set, take, drop, replicate}
 use Rattle.codes.specs.Bytes.{big_endian}
 use Rattle.codes.specs.Difference.{has_code}
 use Rattle.codes.specs.Numbers.{unsound, cut, forbidden}

@@ -2,28 +2,25 @@
 -- Used by the proof of send_steady.
 use Prim.Native.Nat.{ℕ, ◌+◌, ◌-◌, ◌≤◌, ◌<◌}
 use mathlib.Core.Path.{◌≡◌, refl, sym, ap, ◌∙◌}
-use mathlib.Core.Bool.{Bool, true, false, not, cond}
+use mathlib.Core.Bool.{true, not, cond}
 use mathlib.Core.List.{List}
 use native.Mathlib.Omega.{arith}
 use lib.ListN.{length, take, drop}
 use Rattle.packet.specs.declared.header.Header.{Header}
 use Rattle.octets.specs.Put.{Wrote}
 use Rattle.headers.specs.Header.{header_size}
-use Rattle.context.specs.Compressor.{parts_of, list_if, Going}
+use Rattle.context.specs.Compressor.{parts_of, list_if}
 use Rattle.compressor_steady.specs.Steady.{steady, steadied, steady_step}
 use Rattle.context.specs.declared.compressor.Usage.{Usage}
 use Rattle.context.specs.declared.compressor.CompressorContext.{CompressorContext}
 use Rattle.compressor_steady.proofs.Rules.{Steady, steady-true, steady-step}
 use Rattle.outgoing.specs.Outgoing.{step_by, step_on, link_bytes}
 use Rattle.outgoing.specs.Size.{link_size, Writable}
-use Rattle.compressor.specs.declared.table.Table.{Table}
-use Rattle.compressor.specs.Answer.{Result}
 use Rattle.compressor.specs.Table.{context_at, with_context}
 use Rattle.compressor.specs.CanSend.{CanSend, send_with}
 use Rattle.planes.specs.Planes.{Lent}
 use Rattle.compressor_table.specs.Layout.{context_in, table_of, Fits, Puts}
 use Rattle.compressor_table.specs.LayoutLaws.{table_of-at}
-use Rattle.compressor_table.specs.Calls.{Gives}
 use Rattle.compressor_steady.specs.Unlisted.{Unlisted}
 use Rattle.compressor_steady.proofs.Written.{two-most}
 use Rattle.send.proofs.Sending.{past-link, send_with-written}

@@ -1,12 +1,10 @@
 -- Iarwennol. The ways of a send, each as the answer that it gives. Assume nothing.
 -- Used by the proof of send.
 use Prim.Native.Nat.{ℕ, ◌≤◌}
-use mathlib.Core.Path.{◌≡◌, refl, sym}
-use mathlib.Core.Bool.{Bool, true, false, ◌&&◌, and-eq-true_iff}
+use mathlib.Core.Path.{◌≡◌}
+use mathlib.Core.Bool.{true, false}
 use mathlib.Core.List.{List}
 use mathlib.Core.Option.{none, some}
-use borrow.Author.Tests.{leb-true}
-use lib.Dec.{leb}
 use lib.ListN.{length}
 use Rattle.headers.specs.Header.{header_of}
 use Rattle.headers.specs.Compressible.{compressible}
@@ -14,7 +12,7 @@ use Rattle.compressor.specs.declared.table.Table.{Table}
 use Rattle.compressor.specs.Answer.{refused}
 use Rattle.compressor.specs.Table.{sound_of}
 use Rattle.compressor.specs.Lookup.{place_of}
-use Rattle.compressor.specs.Send.{send_at, send_plain, send_to, send_of}
+use Rattle.compressor.specs.Send.{send_at, send_plain, send_of}
 use Rattle.settings.specs.Settings.{length_allowed}
 use Rattle.settings.specs.SettingsLaws.{length_allowed-true}
 use Rattle.compressor.proofs.SendLaws.{On, place_of-found}

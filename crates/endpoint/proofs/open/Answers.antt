@@ -20,39 +20,68 @@ parts a b c e =
 pub returns-then-not-sender-receiver : goal.returns-then-not-sender-receiver
 returns-then-not-sender-receiver c =
     let a = c.args in
-    gives-kept ((ends (lent c.args.cw.now c.args.ch.now c.args.cb.now) (lent c.args.dw.now c.args.dh.now c.args.db.now) c.args.t.now)) _ [] (open_lent ((ends (lent c.args.cw.now c.args.ch.now c.args.cb.now) (lent c.args.dw.now c.args.dh.now c.args.db.now) c.args.t.now)) a.n a.k)
-    (open_lent-not ((ends (lent c.args.cw.now c.args.ch.now c.args.cb.now) (lent c.args.dw.now c.args.dh.now c.args.db.now) c.args.t.now)) a.n a.k
-    (not-true (sized_compressor (lent c.args.cw.now c.args.ch.now c.args.cb.now) && sized_decompressor (lent c.args.dw.now c.args.dh.now c.args.db.now) && counted a.t.now) c.if-not-sender-receiver.true-raw))
+    gives-kept ((ends (lent c.args.cw.now c.args.ch.now c.args.cb.now) (lent c.args.dw.now c.args.dh.now c.args.db.now)
+    c.args.t.now)) _ []
+    (open_lent ((ends (lent c.args.cw.now c.args.ch.now c.args.cb.now) (lent c.args.dw.now c.args.dh.now c.args.db.now)
+    c.args.t.now)) a.n a.k)
+    (open_lent-not ((ends (lent c.args.cw.now c.args.ch.now c.args.cb.now) (lent c.args.dw.now c.args.dh.now c.args.db.now)
+    c.args.t.now)) a.n a.k
+    (not-true (sized_compressor (lent c.args.cw.now c.args.ch.now c.args.cb.now) && sized_decompressor
+    (lent c.args.dw.now c.args.dh.now c.args.db.now) && counted a.t.now) c.if-not-sender-receiver.true-raw))
 
 pub put_totals-requires : goal.put_totals-requires
 put_totals-requires c =
     let a = c.args in
-    eqb-true _ _ (parts (sized_compressor (lent c.args.cw.now c.args.ch.now c.args.cb.now)) (sized_decompressor (lent c.args.dw.now c.args.dh.now c.args.db.now)) (counted a.t.now) (not-false
-    (sized_compressor (lent c.args.cw.now c.args.ch.now c.args.cb.now) && sized_decompressor (lent c.args.dw.now c.args.dh.now c.args.db.now) && counted a.t.now) c.if-not-sender-receiver.false-raw)).2
+    eqb-true _ _ (parts (sized_compressor (lent c.args.cw.now c.args.ch.now c.args.cb.now))
+    (sized_decompressor (lent c.args.dw.now c.args.dh.now c.args.db.now)) (counted a.t.now) (not-false
+    (sized_compressor (lent c.args.cw.now c.args.ch.now c.args.cb.now) && sized_decompressor
+    (lent c.args.dw.now c.args.dh.now c.args.db.now) && counted a.t.now) c.if-not-sender-receiver.false-raw)).2
 
 pub returns-then-is_accepted : goal.returns-then-is_accepted
 returns-then-is_accepted c =
     let a = c.args in
-    let z = parts (sized_compressor (lent c.args.cw.now c.args.ch.now c.args.cb.now)) (sized_decompressor (lent c.args.dw.now c.args.dh.now c.args.db.now)) (counted a.t.now) (not-false
-    (sized_compressor (lent c.args.cw.now c.args.ch.now c.args.cb.now) && sized_decompressor (lent c.args.dw.now c.args.dh.now c.args.db.now) && counted a.t.now) c.if-not-sender-receiver.false-raw) in
+    let z = parts (sized_compressor (lent c.args.cw.now c.args.ch.now c.args.cb.now))
+    (sized_decompressor (lent c.args.dw.now c.args.dh.now c.args.db.now)) (counted a.t.now) (not-false
+    (sized_compressor (lent c.args.cw.now c.args.ch.now c.args.cb.now) && sized_decompressor
+    (lent c.args.dw.now c.args.dh.now c.args.db.now) && counted a.t.now) c.if-not-sender-receiver.false-raw) in
     rw c.opened-outcome.ensures
-    (gives-by ((ends (lent c.args.cw.now c.args.ch.now c.args.cb.now) (lent c.args.dw.now c.args.dh.now c.args.db.now) c.args.t.now)) _ _ [] (open_of (endpoint_of ((ends (lent c.args.cw.now c.args.ch.now c.args.cb.now) (lent c.args.dw.now c.args.dh.now c.args.db.now) c.args.t.now))) a.n a.k) (open_lent ((ends (lent c.args.cw.now c.args.ch.now c.args.cb.now) (lent c.args.dw.now c.args.dh.now c.args.db.now) c.args.t.now)) a.n a.k)
-    (sym (open_lent-sized ((ends (lent c.args.cw.now c.args.ch.now c.args.cb.now) (lent c.args.dw.now c.args.dh.now c.args.db.now) c.args.t.now)) a.n a.k (not-false (sized_compressor (lent c.args.cw.now c.args.ch.now c.args.cb.now) && sized_decompressor (lent c.args.dw.now c.args.dh.now c.args.db.now) &&
+    (gives-by ((ends (lent c.args.cw.now c.args.ch.now c.args.cb.now) (lent c.args.dw.now c.args.dh.now c.args.db.now)
+    c.args.t.now)) _ _ []
+    (open_of (endpoint_of ((ends (lent c.args.cw.now c.args.ch.now c.args.cb.now)
+    (lent c.args.dw.now c.args.dh.now c.args.db.now) c.args.t.now))) a.n a.k)
+    (open_lent ((ends (lent c.args.cw.now c.args.ch.now c.args.cb.now)
+    (lent c.args.dw.now c.args.dh.now c.args.db.now) c.args.t.now)) a.n a.k)
+    (sym (open_lent-sized ((ends (lent c.args.cw.now c.args.ch.now c.args.cb.now) (lent c.args.dw.now c.args.dh.now c.args.db.now)
+    c.args.t.now)) a.n a.k (not-false (sized_compressor (lent c.args.cw.now c.args.ch.now c.args.cb.now) && sized_decompressor
+    (lent c.args.dw.now c.args.dh.now c.args.db.now) &&
     counted a.t.now) c.if-not-sender-receiver.false-raw)))
-    (opened_both (lent c.args.cw.now c.args.ch.now c.args.cb.now) _ (lent c.args.dw.now c.args.dh.now c.args.db.now) _ a.t.now a.n a.k c.open_compressor-first.result
+    (opened_both (lent c.args.cw.now c.args.ch.now c.args.cb.now) _ (lent c.args.dw.now c.args.dh.now c.args.db.now) _ a.t.now a.n
+    a.k c.open_compressor-first.result
     c.open_decompressor-second.result z.0 z.1 z.2 c.open_compressor-first.ensures
-    c.open_decompressor-second.ensures _ (sym (c.is_accepted.ensures ∙ ap is_accepted c.opened-outcome.ensures) ∙ c.if-is_accepted.true)
+    c.open_decompressor-second.ensures _ (sym (c.is_accepted.ensures ∙ ap is_accepted c.opened-outcome.ensures)
+    ∙ c.if-is_accepted.true)
     c.put_totals.ensures.0 c.put_totals.ensures.1))
 
 pub returns-else-is_accepted : goal.returns-else-is_accepted
 returns-else-is_accepted c =
     let a = c.args in
-    let z = parts (sized_compressor (lent c.args.cw.now c.args.ch.now c.args.cb.now)) (sized_decompressor (lent c.args.dw.now c.args.dh.now c.args.db.now)) (counted a.t.now) (not-false
-    (sized_compressor (lent c.args.cw.now c.args.ch.now c.args.cb.now) && sized_decompressor (lent c.args.dw.now c.args.dh.now c.args.db.now) && counted a.t.now) c.if-not-sender-receiver.false-raw) in
+    let z = parts (sized_compressor (lent c.args.cw.now c.args.ch.now c.args.cb.now))
+    (sized_decompressor (lent c.args.dw.now c.args.dh.now c.args.db.now)) (counted a.t.now) (not-false
+    (sized_compressor (lent c.args.cw.now c.args.ch.now c.args.cb.now) && sized_decompressor
+    (lent c.args.dw.now c.args.dh.now c.args.db.now) && counted a.t.now) c.if-not-sender-receiver.false-raw) in
     rw c.opened-outcome.ensures
-    (gives-by ((ends (lent c.args.cw.now c.args.ch.now c.args.cb.now) (lent c.args.dw.now c.args.dh.now c.args.db.now) c.args.t.now)) _ _ [] (open_of (endpoint_of ((ends (lent c.args.cw.now c.args.ch.now c.args.cb.now) (lent c.args.dw.now c.args.dh.now c.args.db.now) c.args.t.now))) a.n a.k) (open_lent ((ends (lent c.args.cw.now c.args.ch.now c.args.cb.now) (lent c.args.dw.now c.args.dh.now c.args.db.now) c.args.t.now)) a.n a.k)
-    (sym (open_lent-sized ((ends (lent c.args.cw.now c.args.ch.now c.args.cb.now) (lent c.args.dw.now c.args.dh.now c.args.db.now) c.args.t.now)) a.n a.k (not-false (sized_compressor (lent c.args.cw.now c.args.ch.now c.args.cb.now) && sized_decompressor (lent c.args.dw.now c.args.dh.now c.args.db.now) &&
+    (gives-by ((ends (lent c.args.cw.now c.args.ch.now c.args.cb.now) (lent c.args.dw.now c.args.dh.now c.args.db.now)
+    c.args.t.now)) _ _ []
+    (open_of (endpoint_of ((ends (lent c.args.cw.now c.args.ch.now c.args.cb.now)
+    (lent c.args.dw.now c.args.dh.now c.args.db.now) c.args.t.now))) a.n a.k)
+    (open_lent ((ends (lent c.args.cw.now c.args.ch.now c.args.cb.now)
+    (lent c.args.dw.now c.args.dh.now c.args.db.now) c.args.t.now)) a.n a.k)
+    (sym (open_lent-sized ((ends (lent c.args.cw.now c.args.ch.now c.args.cb.now) (lent c.args.dw.now c.args.dh.now c.args.db.now)
+    c.args.t.now)) a.n a.k (not-false (sized_compressor (lent c.args.cw.now c.args.ch.now c.args.cb.now) && sized_decompressor
+    (lent c.args.dw.now c.args.dh.now c.args.db.now) &&
     counted a.t.now) c.if-not-sender-receiver.false-raw)))
-    (opened-none (lent c.args.cw.now c.args.ch.now c.args.cb.now) _ (lent c.args.dw.now c.args.dh.now c.args.db.now) _ a.t.now a.n a.k c.open_compressor-first.result
+    (opened-none (lent c.args.cw.now c.args.ch.now c.args.cb.now) _ (lent c.args.dw.now c.args.dh.now c.args.db.now) _ a.t.now a.n
+    a.k c.open_compressor-first.result
     c.open_decompressor-second.result z.0 z.1 z.2 c.open_compressor-first.ensures
-    c.open_decompressor-second.ensures (sym (c.is_accepted.ensures ∙ ap is_accepted c.opened-outcome.ensures) ∙ c.if-is_accepted.false)))
+    c.open_decompressor-second.ensures (sym (c.is_accepted.ensures ∙ ap is_accepted c.opened-outcome.ensures)
+    ∙ c.if-is_accepted.false)))

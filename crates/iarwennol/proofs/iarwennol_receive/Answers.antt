@@ -3,4 +3,5 @@ use Rattle.iarwennol.specs.PackedLaws.{given-as}
 use Rattle.iarwennol.proofs.iarwennol_receive.Goals as goal
 
 pub returns : goal.returns
-returns c = given-as (lent c.args.w.now c.args.h.now c.args.b.now) _ c.receive-o.result c.pack_given.result _ _ c.pack_given.ensures c.receive-o.ensures
+returns c = given-as (lent c.args.w.now c.args.h.now c.args.b.now) _ c.receive-o.result c.pack_given.result _ _
+    c.pack_given.ensures c.receive-o.ensures

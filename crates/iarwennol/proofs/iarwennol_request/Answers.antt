@@ -3,4 +3,5 @@ use Rattle.iarwennol.specs.PackedLaws.{sent-as}
 use Rattle.iarwennol.proofs.iarwennol_request.Goals as goal
 
 pub returns : goal.returns
-returns c = sent-as (lent c.args.w.now c.args.h.now c.args.b.now) _ c.request-o.result c.pack_sent.result _ _ c.pack_sent.ensures c.request-o.ensures
+returns c = sent-as (lent c.args.w.now c.args.h.now c.args.b.now) _ c.request-o.result c.pack_sent.result _ _ c.pack_sent.ensures
+    c.request-o.ensures

@@ -7,7 +7,8 @@ use Rattle.load.specs.LoadLaws.{front_of-most, load-unsized, lent-refused, lent-
 use Rattle.load.proofs.load.Goals as goal
 
 pub returns-then-not-sized : goal.returns-then-not-sized
-returns-then-not-sized c = load-unsized (lent c.args.w.now c.args.h.now c.args.b.now) c.args.s.now (not-true (sized (lent c.args.w.now c.args.h.now c.args.b.now)) c.if-not-sized.true-raw)
+returns-then-not-sized c = load-unsized (lent c.args.w.now c.args.h.now c.args.b.now) c.args.s.now
+    (not-true (sized (lent c.args.w.now c.args.h.now c.args.b.now)) c.if-not-sized.true-raw)
 
 pub read_records-records-requires : goal.read_records-records-requires
 read_records-records-requires c =
@@ -23,13 +24,15 @@ returns-in-Accepted c =
     let front = c.read_front-front in
     let q = c.read_records-records in
     let p = c.allow-end in
-    lent-records (lent c.args.w.now c.args.h.now c.args.b.now) c.args.s.now (not-false (sized (lent c.args.w.now c.args.h.now c.args.b.now)) c.if-not-sized.false-raw)
+    lent-records (lent c.args.w.now c.args.h.now c.args.b.now) c.args.s.now
+    (not-false (sized (lent c.args.w.now c.args.h.now c.args.b.now)) c.if-not-sized.false-raw)
     front.result front.ensures
     q.result p.result _ _ c.in-Accepted.is q.ensures p.ensures c.settle.ensures
 
 pub returns-in-Refused : goal.returns-in-Refused
 returns-in-Refused c =
     let front = c.read_front-front in
-    lent-refused (lent c.args.w.now c.args.h.now c.args.b.now) c.args.s.now (not-false (sized (lent c.args.w.now c.args.h.now c.args.b.now)) c.if-not-sized.false-raw)
+    lent-refused (lent c.args.w.now c.args.h.now c.args.b.now) c.args.s.now
+    (not-false (sized (lent c.args.w.now c.args.h.now c.args.b.now)) c.if-not-sized.false-raw)
     front.result front.ensures _
     c.in-Refused.is

@@ -21,15 +21,18 @@ use Rattle.request.proofs.request.Goals as goal
 
 pub returns-then-not-sound : goal.returns-then-not-sound
 returns-then-not-sound c =
-    gives-kept (lent c.args.w.now c.args.h.now c.args.b.now) _ [] (request_of ((table_of (lent c.args.w.now c.args.h.now c.args.b.now))) c.args.s.now)
-    (request_of-unsound ((table_of (lent c.args.w.now c.args.h.now c.args.b.now))) c.args.s.now (sym c.sound.ensures ∙ not-true _ c.if-not-sound.true-raw))
+    gives-kept (lent c.args.w.now c.args.h.now c.args.b.now) _ [] (request_of
+    ((table_of (lent c.args.w.now c.args.h.now c.args.b.now))) c.args.s.now)
+    (request_of-unsound ((table_of (lent c.args.w.now c.args.h.now c.args.b.now))) c.args.s.now
+    (sym c.sound.ensures ∙ not-true _ c.if-not-sound.true-raw))
 
 pub bounds-b-1281 : goal.bounds-b-1281
 bounds-b-1281 c =
     omega (
       arith,
       (fits-sizes (lent c.args.w.now c.args.h.now c.args.b.now)
-          (sound-fits (lent c.args.w.now c.args.h.now c.args.b.now) (sym c.sound.ensures ∙ not-false _ c.if-not-sound.false-raw))).bytes,
+          (sound-fits (lent c.args.w.now c.args.h.now c.args.b.now) (sym c.sound.ensures
+          ∙ not-false _ c.if-not-sound.false-raw))).bytes,
     )
 
 pub act_on_all-requires : goal.act_on_all-requires
@@ -42,22 +45,31 @@ act_on_all-requires c =
       record {
         repeats = sound-repeats ((table_of (lent c.args.w.now c.args.h.now c.args.b.now))) k;
         most = sound-most ((table_of (lent c.args.w.now c.args.h.now c.args.b.now))) k;
-        good = request_judged-good ((table_of (lent c.args.w.now c.args.h.now c.args.b.now))).settings.contexts c.args.s.now (ap (λ (k : ℕ). request_judged k c.args.s.now) (table_of-contexts (lent c.args.w.now c.args.h.now c.args.b.now) (sound-fits (lent c.args.w.now c.args.h.now c.args.b.now) (sym c.sound.ensures ∙ not-false _ c.if-not-sound.false-raw))) ∙ sym c.judge_request.ensures ∙ ap verdict_number c.in-Accepted.is);
+        good = request_judged-good ((table_of (lent c.args.w.now c.args.h.now c.args.b.now))).settings.contexts c.args.s.now
+            (ap (λ (k : ℕ). request_judged k c.args.s.now) (table_of-contexts (lent c.args.w.now c.args.h.now c.args.b.now)
+            (sound-fits (lent c.args.w.now c.args.h.now c.args.b.now)
+            (sym c.sound.ensures ∙ not-false _ c.if-not-sound.false-raw))) ∙ sym c.judge_request.ensures
+            ∙ ap verdict_number c.in-Accepted.is);
       },
     )
 
 pub returns-in-Accepted : goal.returns-in-Accepted
 returns-in-Accepted c =
-    gives-accepted (lent c.args.w.now c.args.h.now c.args.b.now) _ 0 0 [] (request_of ((table_of (lent c.args.w.now c.args.h.now c.args.b.now))) c.args.s.now)
+    gives-accepted (lent c.args.w.now c.args.h.now c.args.b.now) _ 0 0 []
+    (request_of ((table_of (lent c.args.w.now c.args.h.now c.args.b.now))) c.args.s.now)
     (ap (λ (t : Table). said (Accepted 0 0) t []) c.act_on_all.ensures
-    ∙ request_of-good ((table_of (lent c.args.w.now c.args.h.now c.args.b.now))) c.args.s.now (sym c.sound.ensures ∙ not-false _ c.if-not-sound.false-raw) (ap (λ (k : ℕ). request_judged k
-    c.args.s.now) (table_of-contexts (lent c.args.w.now c.args.h.now c.args.b.now) (sound-fits (lent c.args.w.now c.args.h.now c.args.b.now) (sym c.sound.ensures ∙
+    ∙ request_of-good ((table_of (lent c.args.w.now c.args.h.now c.args.b.now))) c.args.s.now
+    (sym c.sound.ensures ∙ not-false _ c.if-not-sound.false-raw) (ap (λ (k : ℕ). request_judged k
+    c.args.s.now) (table_of-contexts (lent c.args.w.now c.args.h.now c.args.b.now)
+    (sound-fits (lent c.args.w.now c.args.h.now c.args.b.now) (sym c.sound.ensures ∙
     not-false _ c.if-not-sound.false-raw))) ∙ sym c.judge_request.ensures ∙ ap verdict_number c.in-Accepted.is))
 
 pub returns-in-Refused : goal.returns-in-Refused
 returns-in-Refused c =
-    gives-kept (lent c.args.w.now c.args.h.now c.args.b.now) _ [] (request_of ((table_of (lent c.args.w.now c.args.h.now c.args.b.now))) c.args.s.now)
+    gives-kept (lent c.args.w.now c.args.h.now c.args.b.now) _ [] (request_of
+    ((table_of (lent c.args.w.now c.args.h.now c.args.b.now))) c.args.s.now)
     (request_of-refused ((table_of (lent c.args.w.now c.args.h.now c.args.b.now))) c.args.s.now (sym c.sound.ensures ∙
     not-false _ c.if-not-sound.false-raw) c.in-Refused.why
-    (ap (λ (k : ℕ). request_judged k c.args.s.now) (table_of-contexts (lent c.args.w.now c.args.h.now c.args.b.now) (sound-fits (lent c.args.w.now c.args.h.now c.args.b.now) (sym c.sound.ensures ∙ not-false _ c.if-not-sound.false-raw))) ∙
+    (ap (λ (k : ℕ). request_judged k c.args.s.now) (table_of-contexts (lent c.args.w.now c.args.h.now c.args.b.now)
+    (sound-fits (lent c.args.w.now c.args.h.now c.args.b.now) (sym c.sound.ensures ∙ not-false _ c.if-not-sound.false-raw))) ∙
     sym c.judge_request.ensures ∙ ap verdict_number c.in-Refused.is))

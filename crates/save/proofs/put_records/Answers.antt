@@ -20,7 +20,8 @@ loop-i-init c = (
 pub context_at-context-requires : goal.context_at-context-requires
 context_at-context-requires c =
     let v = c.loop-i.invariant in
-    let z = fits-sizes (lent c.args.w.now c.args.h.now c.args.b.now) (sound-fits (lent c.args.w.now c.args.h.now c.args.b.now) v.0) in
+    let z = fits-sizes (lent c.args.w.now c.args.h.now c.args.b.now) (sound-fits (lent c.args.w.now c.args.h.now c.args.b.now) v.0)
+    in
     (z.words, z.shorts, z.bytes, omega (arith, v.1, c.loop-i-test.true))
 
 pub put_record-past-requires : goal.put_record-past-requires
@@ -29,13 +30,15 @@ put_record-past-requires c =
     let x = c.context_at-context in
     let g = c.loop-i-test.true in
     let w = l.invariant.4 in (
-      sound-here (lent c.args.w.now c.args.h.now c.args.b.now) l.invariant.0 l.i (omega (arith, l.invariant.1, g)) x.result x.ensures,
+      sound-here (lent c.args.w.now c.args.h.now c.args.b.now) l.invariant.0 l.i (omega (arith, l.invariant.1, g)) x.result
+          x.ensures,
       omega (
         arith,
         w.ends,
         wrote-length w,
         l.invariant.3,
-        room-here (lent c.args.w.now c.args.h.now c.args.b.now) l.invariant.0 l.i (omega (arith, l.invariant.1, g)) x.result x.ensures c.args.n g,
+        room-here (lent c.args.w.now c.args.h.now c.args.b.now) l.invariant.0 l.i (omega (arith, l.invariant.1, g)) x.result
+            x.ensures c.args.n g,
       ),
     )
 
@@ -47,7 +50,8 @@ loop-i-preserved c =
       l.invariant.1,
       omega arith,
       l.invariant.3,
-      rw (records-here (lent c.args.w.now c.args.h.now c.args.b.now) l.invariant.0 l.i (omega (arith, l.invariant.1, c.loop-i-test.true)) x.result x.ensures)
+      rw (records-here (lent c.args.w.now c.args.h.now c.args.b.now) l.invariant.0 l.i
+          (omega (arith, l.invariant.1, c.loop-i-test.true)) x.result x.ensures)
           (wrote_then l.invariant.4 c.put_record-past.ensures),
     )
 

@@ -13,7 +13,8 @@ loop-i-init c = (c.requires.0, c.requires.1, omega arith, refl, omega arith)
 pub context_at-context-requires : goal.context_at-context-requires
 context_at-context-requires c =
     let v = c.loop-i.invariant in
-    let z = fits-sizes (lent c.args.w.now c.args.h.now c.args.b.now) (sound-fits (lent c.args.w.now c.args.h.now c.args.b.now) v.0) in
+    let z = fits-sizes (lent c.args.w.now c.args.h.now c.args.b.now) (sound-fits (lent c.args.w.now c.args.h.now c.args.b.now) v.0)
+    in
     (z.words, z.shorts, z.bytes, omega (arith, v.1, c.loop-i-test.true))
 
 pub record_size-size-requires : goal.record_size-size-requires

@@ -22,22 +22,28 @@ use Rattle.send.proofs.send.Goals as goal
 pub returns-then-not-sound : goal.returns-then-not-sound
 returns-then-not-sound c =
     let a = c.args in
-    gives-kept (lent c.args.w.now c.args.h.now c.args.b.now) _ a.out.now (send_of ((table_of (lent c.args.w.now c.args.h.now c.args.b.now))) a.p.now a.out.now)
-    (way-unsound ((table_of (lent c.args.w.now c.args.h.now c.args.b.now))) a.p.now a.out.now (sym c.sound.ensures ∙ not-true _ c.if-not-sound.true-raw))
+    gives-kept (lent c.args.w.now c.args.h.now c.args.b.now) _ a.out.now
+    (send_of ((table_of (lent c.args.w.now c.args.h.now c.args.b.now))) a.p.now a.out.now)
+    (way-unsound ((table_of (lent c.args.w.now c.args.h.now c.args.b.now))) a.p.now a.out.now
+    (sym c.sound.ensures ∙ not-true _ c.if-not-sound.true-raw))
 
 pub returns-then-not-allowed : goal.returns-then-not-allowed
 returns-then-not-allowed c =
     let a = c.args in
-    gives-kept (lent c.args.w.now c.args.h.now c.args.b.now) _ a.out.now (send_of ((table_of (lent c.args.w.now c.args.h.now c.args.b.now))) a.p.now a.out.now)
-    (way-length ((table_of (lent c.args.w.now c.args.h.now c.args.b.now))) a.p.now a.out.now (sym c.sound.ensures ∙ not-false _ c.if-not-sound.false-raw)
+    gives-kept (lent c.args.w.now c.args.h.now c.args.b.now) _ a.out.now
+    (send_of ((table_of (lent c.args.w.now c.args.h.now c.args.b.now))) a.p.now a.out.now)
+    (way-length ((table_of (lent c.args.w.now c.args.h.now c.args.b.now))) a.p.now a.out.now
+    (sym c.sound.ensures ∙ not-false _ c.if-not-sound.false-raw)
     (not-true (length_allowed (length a.p.now)) c.if-not-allowed.true-raw))
 
 pub returns-then-not-is_compressible : goal.returns-then-not-is_compressible
 returns-then-not-is_compressible c =
     let a = c.args in
-    gives-kept (lent c.args.w.now c.args.h.now c.args.b.now) c.send_plain.result _ (send_of ((table_of (lent c.args.w.now c.args.h.now c.args.b.now))) a.p.now a.out.now)
+    gives-kept (lent c.args.w.now c.args.h.now c.args.b.now) c.send_plain.result _
+    (send_of ((table_of (lent c.args.w.now c.args.h.now c.args.b.now))) a.p.now a.out.now)
     (c.send_plain.ensures ((table_of (lent c.args.w.now c.args.h.now c.args.b.now)))
-    ∙ way-plain ((table_of (lent c.args.w.now c.args.h.now c.args.b.now))) a.p.now a.out.now (sym c.sound.ensures ∙ not-false _ c.if-not-sound.false-raw) (not-false
+    ∙ way-plain ((table_of (lent c.args.w.now c.args.h.now c.args.b.now))) a.p.now a.out.now
+    (sym c.sound.ensures ∙ not-false _ c.if-not-sound.false-raw) (not-false
     (length_allowed
     (length a.p.now)) c.if-not-allowed.false-raw)
     (sym c.is_compressible.ensures ∙ not-true _ c.if-not-is_compressible.true-raw))
@@ -59,23 +65,28 @@ find-requires c = (
   sound-fits (lent c.args.w.now c.args.h.now c.args.b.now) (sym c.sound.ensures ∙
       not-false _ c.if-not-sound.false-raw),
   sound-most ((table_of (lent c.args.w.now c.args.h.now c.args.b.now)))
-      (sound_of-true ((table_of (lent c.args.w.now c.args.h.now c.args.b.now))) (sym c.sound.ensures ∙ not-false _ c.if-not-sound.false-raw)),
+      (sound_of-true ((table_of (lent c.args.w.now c.args.h.now c.args.b.now)))
+      (sym c.sound.ensures ∙ not-false _ c.if-not-sound.false-raw)),
 )
 
 pub send_on-requires : goal.send_on-requires
 send_on-requires c =
     let a = c.args in
     let sounds = sym c.sound.ensures ∙ not-false _ c.if-not-sound.false-raw in
-    let k = CanSend-on ((table_of (lent c.args.w.now c.args.h.now c.args.b.now))) a.p.now c.in-At.i (length-table_of (lent c.args.w.now c.args.h.now c.args.b.now) (sound-fits (lent c.args.w.now c.args.h.now c.args.b.now) sounds))
+    let k = CanSend-on ((table_of (lent c.args.w.now c.args.h.now c.args.b.now))) a.p.now c.in-At.i
+    (length-table_of (lent c.args.w.now c.args.h.now c.args.b.now)
+    (sound-fits (lent c.args.w.now c.args.h.now c.args.b.now) sounds))
     (AllBytes-elements a.p.now (λ j. omega (arith, c.shared_slice_known-1.given j)))
-    (way_on ((table_of (lent c.args.w.now c.args.h.now c.args.b.now))) a.p.now a.out.now sounds (not-false (length_allowed (length a.p.now)) c.if-not-allowed.false-raw)
+    (way_on ((table_of (lent c.args.w.now c.args.h.now c.args.b.now))) a.p.now a.out.now sounds
+    (not-false (length_allowed (length a.p.now)) c.if-not-allowed.false-raw)
     (sym c.is_compressible.ensures ∙ not-false _ c.if-not-is_compressible.false-raw)
     c.in-At.i
     (sym (rw c.header_with-header.ensures at c.find.ensures) ∙ ap place_in c.in-At.is)) in (
       sound-fits (lent c.args.w.now c.args.h.now c.args.b.now) sounds,
       rw c.header_with-header.ensures k,
       rw c.header_with-header.ensures
-          (unlisted-lent (lent c.args.w.now c.args.h.now c.args.b.now) c.in-At.i a.p.now (sound-fits (lent c.args.w.now c.args.h.now c.args.b.now) sounds) k.place sounds),
+          (unlisted-lent (lent c.args.w.now c.args.h.now c.args.b.now) c.in-At.i a.p.now
+          (sound-fits (lent c.args.w.now c.args.h.now c.args.b.now) sounds) k.place sounds),
     )
 
 pub returns-in-At : goal.returns-in-At
@@ -86,8 +97,10 @@ returns-in-At c =
     (send_of ((table_of (lent c.args.w.now c.args.h.now c.args.b.now))) a.p.now a.out.now)
     (ap (λ (x : Header). send_with ((table_of (lent c.args.w.now c.args.h.now c.args.b.now))) c.in-At.i a.p.now a.out.now x)
     c.header_with-header.ensures
-    ∙ way_at ((table_of (lent c.args.w.now c.args.h.now c.args.b.now))) a.p.now a.out.now (sym c.sound.ensures ∙ not-false _ c.if-not-sound.false-raw) (not-false
-    (length_allowed (length a.p.now)) c.if-not-allowed.false-raw) (sym c.is_compressible.ensures ∙ not-false _ c.if-not-is_compressible.false-raw)
+    ∙ way_at ((table_of (lent c.args.w.now c.args.h.now c.args.b.now))) a.p.now a.out.now
+    (sym c.sound.ensures ∙ not-false _ c.if-not-sound.false-raw) (not-false
+    (length_allowed (length a.p.now)) c.if-not-allowed.false-raw) (sym c.is_compressible.ensures
+    ∙ not-false _ c.if-not-is_compressible.false-raw)
     c.in-At.i
     (sym (rw c.header_with-header.ensures at c.find.ensures) ∙ ap
     place_in c.in-At.is))
@@ -96,9 +109,11 @@ returns-in-At c =
 pub returns-in-Nowhere : goal.returns-in-Nowhere
 returns-in-Nowhere c =
     let a = c.args in
-    gives-kept (lent c.args.w.now c.args.h.now c.args.b.now) c.send_plain-in-Nowhere.result _ (send_of ((table_of (lent c.args.w.now c.args.h.now c.args.b.now))) a.p.now a.out.now)
+    gives-kept (lent c.args.w.now c.args.h.now c.args.b.now) c.send_plain-in-Nowhere.result _
+    (send_of ((table_of (lent c.args.w.now c.args.h.now c.args.b.now))) a.p.now a.out.now)
     (c.send_plain-in-Nowhere.ensures ((table_of (lent c.args.w.now c.args.h.now c.args.b.now)))
-    ∙ way-nowhere ((table_of (lent c.args.w.now c.args.h.now c.args.b.now))) a.p.now a.out.now (sym c.sound.ensures ∙ not-false _ c.if-not-sound.false-raw)
+    ∙ way-nowhere ((table_of (lent c.args.w.now c.args.h.now c.args.b.now))) a.p.now a.out.now
+    (sym c.sound.ensures ∙ not-false _ c.if-not-sound.false-raw)
     (not-false (length_allowed (length a.p.now)) c.if-not-allowed.false-raw) (sym c.is_compressible.ensures ∙ not-false _
     c.if-not-is_compressible.false-raw)
     (sym (rw c.header_with-header.ensures at

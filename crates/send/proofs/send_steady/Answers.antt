@@ -12,7 +12,8 @@ use Rattle.send.proofs.send_steady.Goals as goal
 pub put_steady-past-requires : goal.put_steady-past-requires
 put_steady-past-requires c =
     let a = c.args in (
-      link-steady (lent c.args.w.now c.args.h.now c.args.b.now) a.i a.p.now a.x a.c c.requires.0 c.requires.1 c.requires.2 c.requires.3 c.requires.4,
+      link-steady (lent c.args.w.now c.args.h.now c.args.b.now) a.i a.p.now a.x a.c c.requires.0 c.requires.1 c.requires.2
+          c.requires.3 c.requires.4,
       omega (arith, c.requires.1.whole, c.requires.5),
     )
 
@@ -32,9 +33,11 @@ put_all-length-requires c =
       arith,
       length_rest a.p.now f.result,
       c.requires.5,
-      past-steady (lent c.args.w.now c.args.h.now c.args.b.now) a.i a.p.now a.x a.c c.requires.0 c.requires.1 c.requires.2 c.requires.3 c.requires.4
+      past-steady (lent c.args.w.now c.args.h.now c.args.b.now) a.i a.p.now a.x a.c c.requires.0 c.requires.1 c.requires.2
+          c.requires.3 c.requires.4
           f.result f.ensures (c.put_steady-past.ensures (length a.p.now)),
-      room-steady (lent c.args.w.now c.args.h.now c.args.b.now) a.i a.p.now a.x a.c c.requires.0 c.requires.1 c.requires.2 c.requires.3 c.requires.4
+      room-steady (lent c.args.w.now c.args.h.now c.args.b.now) a.i a.p.now a.x a.c c.requires.0 c.requires.1 c.requires.2
+          c.requires.3 c.requires.4
           f.result f.ensures,
     )
 
@@ -44,7 +47,9 @@ returns c =
     let f = c.header_size-start in
     gives-sent (lent c.args.w.now c.args.h.now c.args.b.now) _ a.i 3 c.put_all-length.result (steadied a.x a.c) _
     (send_with ((table_of (lent c.args.w.now c.args.h.now c.args.b.now))) a.i a.p.now a.out.now a.x)
-    (stored-steady (lent c.args.w.now c.args.h.now c.args.b.now) a.i a.p.now a.x a.c c.requires.0 c.requires.1 c.requires.2 c.requires.3 c.requires.4
+    (stored-steady (lent c.args.w.now c.args.h.now c.args.b.now) a.i a.p.now a.x a.c c.requires.0 c.requires.1 c.requires.2
+    c.requires.3 c.requires.4
     c.store_steady.ensures)
-    (sent-steady (lent c.args.w.now c.args.h.now c.args.b.now) a.i a.p.now a.x a.c c.requires.0 c.requires.1 c.requires.2 c.requires.3 c.requires.4
+    (sent-steady (lent c.args.w.now c.args.h.now c.args.b.now) a.i a.p.now a.x a.c c.requires.0 c.requires.1 c.requires.2
+    c.requires.3 c.requires.4
     f.result f.ensures c.requires.5 (c.put_steady-past.ensures (length a.p.now)) c.put_all-length.ensures)

@@ -53,7 +53,8 @@ pub link_size-requires : goal.link_size-requires
 link_size-requires c =
     let a = c.args in
     let x = c.step_on-step in
-    (rw (step-here (lent c.args.w.now c.args.h.now c.args.b.now) a.i a.x c.context_with-context.result (stepped x.result) c.requires.0 c.requires.1.place
+    (rw (step-here (lent c.args.w.now c.args.h.now c.args.b.now) a.i a.x c.context_with-context.result (stepped x.result)
+    c.requires.0 c.requires.1.place
     c.context_with-context.ensures x.ensures) c.requires.1.writable)
 
 pub overflow_add-size : goal.overflow_add-size
@@ -70,10 +71,14 @@ returns-then-out-size c =
     let x = c.step_on-step in
     let f = c.header_size-start in
     let l = c.link_size in
-    gives-kept (lent c.args.w.now c.args.h.now c.args.b.now) _ a.out.now (send_with ((table_of (lent c.args.w.now c.args.h.now c.args.b.now))) a.i a.p.now a.out.now a.x)
-    (send_with-refused ((table_of (lent c.args.w.now c.args.h.now c.args.b.now))) a.i a.p.now a.out.now a.x (stepped x.result) (rw (step-here (lent c.args.w.now c.args.h.now c.args.b.now) a.i a.x c.context_with-context.result (stepped x.result) c.requires.0 c.requires.1.place
+    gives-kept (lent c.args.w.now c.args.h.now c.args.b.now) _ a.out.now
+    (send_with ((table_of (lent c.args.w.now c.args.h.now c.args.b.now))) a.i a.p.now a.out.now a.x)
+    (send_with-refused ((table_of (lent c.args.w.now c.args.h.now c.args.b.now))) a.i a.p.now a.out.now a.x (stepped x.result)
+    (rw (step-here (lent c.args.w.now c.args.h.now c.args.b.now) a.i a.x c.context_with-context.result (stepped x.result)
+    c.requires.0 c.requires.1.place
     c.context_with-context.ensures x.ensures) c.requires.1.writable)
-    l.result f.result l.ensures.0 f.ensures (step-here (lent c.args.w.now c.args.h.now c.args.b.now) a.i a.x c.context_with-context.result (stepped x.result) c.requires.0 c.requires.1.place
+    l.result f.result l.ensures.0 f.ensures (step-here (lent c.args.w.now c.args.h.now c.args.b.now) a.i a.x
+    c.context_with-context.result (stepped x.result) c.requires.0 c.requires.1.place
     c.context_with-context.ensures x.ensures)
     (omega (arith, length_rest a.p.now f.result, c.if-out-size.true)))
 
@@ -107,7 +112,8 @@ put_all-length-requires c =
     let x = c.step_on-step in
     let f = c.header_size-start in
     let l = c.link_size in
-    let w = past-link ((table_of (lent c.args.w.now c.args.h.now c.args.b.now))) a.i a.p.now a.out.now a.x (stepped x.result) (rw (step-here (lent c.args.w.now c.args.h.now c.args.b.now) a.i a.x c.context_with-context.result
+    let w = past-link ((table_of (lent c.args.w.now c.args.h.now c.args.b.now))) a.i a.p.now a.out.now a.x (stepped x.result)
+    (rw (step-here (lent c.args.w.now c.args.h.now c.args.b.now) a.i a.x c.context_with-context.result
     (stepped x.result) c.requires.0 c.requires.1.place
     c.context_with-context.ensures x.ensures)
     c.requires.1.writable)
@@ -126,12 +132,15 @@ returns c =
     let x = c.step_on-step in
     let f = c.header_size-start in
     let l = c.link_size in
-    gives-sent (lent c.args.w.now c.args.h.now c.args.b.now) _ a.i c.kind_number.result c.put_all-length.result (stepped x.result).context _
+    gives-sent (lent c.args.w.now c.args.h.now c.args.b.now) _ a.i c.kind_number.result c.put_all-length.result
+    (stepped x.result).context _
     (send_with ((table_of (lent c.args.w.now c.args.h.now c.args.b.now))) a.i a.p.now a.out.now a.x) c.put_context.ensures
-    (send_with-written ((table_of (lent c.args.w.now c.args.h.now c.args.b.now))) a.i a.p.now a.out.now a.x (stepped x.result) (rw (step-here (lent c.args.w.now c.args.h.now c.args.b.now) a.i a.x c.context_with-context.result
+    (send_with-written ((table_of (lent c.args.w.now c.args.h.now c.args.b.now))) a.i a.p.now a.out.now a.x (stepped x.result)
+    (rw (step-here (lent c.args.w.now c.args.h.now c.args.b.now) a.i a.x c.context_with-context.result
     (stepped x.result) c.requires.0 c.requires.1.place
     c.context_with-context.ensures x.ensures) c.requires.1.writable)
-    l.result f.result l.ensures.0 f.ensures (step-here (lent c.args.w.now c.args.h.now c.args.b.now) a.i a.x c.context_with-context.result (stepped
+    l.result f.result l.ensures.0 f.ensures (step-here (lent c.args.w.now c.args.h.now c.args.b.now) a.i a.x
+    c.context_with-context.result (stepped
     x.result) c.requires.0 c.requires.1.place
     c.context_with-context.ensures x.ensures) c.kind_number.result c.kind_number.ensures
     (omega (

@@ -26,7 +26,8 @@ returns-then-base-d c =
 pub returns-then-d-lt4194304 : goal.returns-then-d-lt4194304
 returns-then-d-lt4194304 c =
     let a = c.args in
-    c.three-then-d-lt4194304.ensures ∙ sym (code_in-high (a.base + 16384) a.d (omega arith) (omega arith) (omega arith) (omega arith))
+    c.three-then-d-lt4194304.ensures ∙ sym (code_in-high (a.base + 16384) a.d (omega arith) (omega arith) (omega arith)
+    (omega arith))
 
 pub returns : goal.returns
 returns c =

@@ -24,7 +24,8 @@ loop-i-init c = (
 pub returns-then-b-i-eq0 : goal.returns-then-b-i-eq0
 returns-then-b-i-eq0 c =
     let l = c.loop-i in
-    sym (l.invariant.3 ∙ lowest-at is_empty (lent c.args.w.now c.args.h.now c.args.b.now) c.args.k l.i c.requires.0 (omega arith) l.invariant.1 true
+    sym (l.invariant.3 ∙ lowest-at is_empty (lent c.args.w.now c.args.h.now c.args.b.now) c.args.k l.i c.requires.0 (omega arith)
+    l.invariant.1 true
     (sym (eq-eqb _ _ c.if-b-i-eq0.true) ∙ is_empty-at c.args.w.now c.args.h.now c.args.b.now l.i))
 
 pub loop-i-preserved : goal.loop-i-preserved
@@ -33,7 +34,8 @@ loop-i-preserved c =
       omega arith,
       l.invariant.1,
       l.invariant.2,
-      l.invariant.3 ∙ lowest-at is_empty (lent c.args.w.now c.args.h.now c.args.b.now) c.args.k l.i c.requires.0 (omega arith) l.invariant.1 false
+      l.invariant.3 ∙ lowest-at is_empty (lent c.args.w.now c.args.h.now c.args.b.now) c.args.k l.i c.requires.0 (omega arith)
+          l.invariant.1 false
           (sym (ne_eqb _ _ c.if-b-i-eq0.false) ∙ is_empty-at c.args.w.now c.args.h.now c.args.b.now l.i),
     )
 

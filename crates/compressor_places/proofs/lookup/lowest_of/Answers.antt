@@ -22,7 +22,8 @@ is_of-requires c =
 pub returns-then-is_of : goal.returns-then-is_of
 returns-then-is_of c =
     let l = c.loop-i in
-    sym (l.invariant.2 ∙ lowest-at (is_of c.args.f) (lent c.args.w.now c.args.h.now c.args.b.now) c.args.k l.i c.requires.0 (omega arith) l.invariant.1
+    sym (l.invariant.2 ∙ lowest-at (is_of c.args.f) (lent c.args.w.now c.args.h.now c.args.b.now) c.args.k l.i c.requires.0
+    (omega arith) l.invariant.1
     c.is_of.result c.is_of.ensures ∙ rw c.if-is_of.true)
 
 pub loop-i-preserved : goal.loop-i-preserved
@@ -30,7 +31,8 @@ loop-i-preserved c =
     let l = c.loop-i in (
       omega arith,
       l.invariant.1,
-      l.invariant.2 ∙ lowest-at (is_of c.args.f) (lent c.args.w.now c.args.h.now c.args.b.now) c.args.k l.i c.requires.0 (omega arith) l.invariant.1
+      l.invariant.2 ∙ lowest-at (is_of c.args.f) (lent c.args.w.now c.args.h.now c.args.b.now) c.args.k l.i c.requires.0
+          (omega arith) l.invariant.1
           c.is_of.result c.is_of.ensures ∙ rw c.if-is_of.false,
     )
 

@@ -6,7 +6,8 @@ use Rattle.compressor_table.proofs.write.put_shorts.Given as goal
 
 abbrev pub invariant-loop-p : goal.invariant-loop-p
 invariant-loop-p l =
-    (length l.r ≡ 6) × (l.i < 64) × (l.p ≤ 6) × (length l.w ≡ 384) × (length l.initial.w ≡ 384) × (replaced l.initial.w l.i 0 l.r ≡ replaced l.w l.i l.p (drop l.p l.r))
+    (length l.r ≡ 6) × (l.i < 64) × (l.p ≤ 6) × (length l.w ≡ 384) × (length l.initial.w ≡ 384)
+    × (replaced l.initial.w l.i 0 l.r ≡ replaced l.w l.i l.p (drop l.p l.r))
 
 abbrev pub decreases-loop-p : goal.decreases-loop-p
 decreases-loop-p l = 6 - l.p

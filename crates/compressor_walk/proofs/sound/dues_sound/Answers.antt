@@ -9,8 +9,14 @@ pub loop-i-preserved : goal.loop-i-preserved
 loop-i-preserved c =
     let b = c.args.b.now in
     let n = c.args.n in
-    let l = c.loop-i in
-    (l.invariant.0, l.invariant.1, l.invariant.2, omega arith, every_more (λ (j : ℕ). due_test n (row b j 0 20)) l.i l.ok l.invariant.4)
+    let l = c.loop-i in (
+      l.invariant.0,
+      l.invariant.1,
+      l.invariant.2,
+      omega arith,
+      every_more (λ (j : ℕ). due_test n (row b j 0 20)) l.i l.ok
+          l.invariant.4,
+    )
 
 pub returns : goal.returns
 returns c =

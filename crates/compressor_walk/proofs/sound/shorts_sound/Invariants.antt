@@ -7,7 +7,8 @@ use Rattle.compressor_walk.proofs.sound.shorts_sound.Given as goal
 
 abbrev pub invariant-loop-i : goal.invariant-loop-i
 invariant-loop-i l =
-    (length l.h ≡ 384) × (length l.b ≡ 1282) × (l.i ≤ 64) × (l.ok ≡ every (λ (j : ℕ). short_test (row l.h j 0 6) (row l.b j 0 20)) l.i)
+    (length l.h ≡ 384) × (length l.b ≡ 1282) × (l.i ≤ 64) × (l.ok ≡ every (λ (j : ℕ). short_test (row l.h j 0 6) (row l.b j 0 20))
+    l.i)
 
 abbrev pub decreases-loop-i : goal.decreases-loop-i
 decreases-loop-i l = 64 - l.i

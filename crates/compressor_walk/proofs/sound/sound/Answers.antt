@@ -22,7 +22,8 @@ ranged : (c : Else-not-is_sound) → within ((lent c.args.w.now c.args.h.now c.a
 ranged c = sym c.is_sound.ensures ∙ not-false _ c.if-not-is_sound.false-raw
 
 pub returns-then-not-sized : goal.returns-then-not-sized
-returns-then-not-sized c = let l = (lent c.args.w.now c.args.h.now c.args.b.now) in unsound-sized l (not-true (sized l) c.if-not-sized.true-raw)
+returns-then-not-sized c = let l = (lent c.args.w.now c.args.h.now c.args.b.now) in unsound-sized l
+    (not-true (sized l) c.if-not-sized.true-raw)
 
 pub bounds-b-1280 : goal.bounds-b-1280
 bounds-b-1280 c = omega (arith, (sizes (goal.at.bounds-b-1280 c).Else-not-sized).bytes)
@@ -56,7 +57,8 @@ unused_from-unused-requires c = (sizes (goal.at.unused_from-unused-requires c).E
 
 pub returns : goal.returns
 returns c =
-    sound-walk ((lent c.args.w.now c.args.h.now c.args.b.now)) _ _ _ _ _ (fit (goal.at.returns c).Else-not-sized) (ranged (goal.at.returns c).Else-not-is_sound)
+    sound-walk ((lent c.args.w.now c.args.h.now c.args.b.now)) _ _ _ _ _ (fit (goal.at.returns c).Else-not-sized)
+    (ranged (goal.at.returns c).Else-not-is_sound)
     c.heads_sound-heads.ensures
     c.dues_sound-dues.ensures
     c.wide_sound-wide.ensures

@@ -7,7 +7,8 @@ use Rattle.compressor_walk.proofs.sound.words_sound.Given as goal
 
 abbrev pub invariant-loop-i : goal.invariant-loop-i
 invariant-loop-i l =
-    (length l.w ≡ 1344) × (length l.b ≡ 1282) × (l.i ≤ 64) × (l.ok ≡ every (λ (j : ℕ). word_test (row l.w j 0 21) (row l.b j 0 20)) l.i)
+    (length l.w ≡ 1344) × (length l.b ≡ 1282) × (l.i ≤ 64) × (l.ok ≡ every (λ (j : ℕ). word_test (row l.w j 0 21) (row l.b j 0 20))
+    l.i)
 
 abbrev pub decreases-loop-i : goal.decreases-loop-i
 decreases-loop-i l = 64 - l.i

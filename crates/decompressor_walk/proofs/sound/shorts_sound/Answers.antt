@@ -9,8 +9,13 @@ pub loop-i-preserved : goal.loop-i-preserved
 loop-i-preserved c =
     let h = c.args.h.now in
     let b = c.args.b.now in
-    let l = c.loop-i in
-    (l.invariant.0, l.invariant.1, omega arith, every_more (λ (j : ℕ). short_test (row h j 0 5) (row b j 0 13)) l.i l.ok l.invariant.3)
+    let l = c.loop-i in (
+      l.invariant.0,
+      l.invariant.1,
+      omega arith,
+      every_more (λ (j : ℕ). short_test (row h j 0 5) (row b j 0 13)) l.i l.ok
+          l.invariant.3,
+    )
 
 pub returns : goal.returns
 returns c =

@@ -7,7 +7,8 @@ use Rattle.decompressor_walk.proofs.sound.shorts_sound.Given as goal
 
 abbrev pub invariant-loop-i : goal.invariant-loop-i
 invariant-loop-i l =
-    (length l.h ≡ 320) × (length l.b ≡ 834) × (l.i ≤ 64) × (l.ok ≡ every (λ (j : ℕ). short_test (row l.h j 0 5) (row l.b j 0 13)) l.i)
+    (length l.h ≡ 320) × (length l.b ≡ 834) × (l.i ≤ 64) × (l.ok ≡ every (λ (j : ℕ). short_test (row l.h j 0 5) (row l.b j 0 13))
+    l.i)
 
 abbrev pub decreases-loop-i : goal.decreases-loop-i
 decreases-loop-i l = 64 - l.i

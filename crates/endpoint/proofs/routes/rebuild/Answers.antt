@@ -10,7 +10,8 @@ use Rattle.endpoint.proofs.routes.rebuild.Goals as goal
 pub returns-then-t-ne-COUNT : goal.returns-then-t-ne-COUNT
 returns-then-t-ne-COUNT c = λ x.
     let a = c.args in
-    closed-rebuild x (lent c.args.w.now c.args.h.now c.args.b.now) a.t.now (ne_eqb _ _ c.if-t-ne-COUNT.true) a.kind a.s.now a.out.now
+    closed-rebuild x (lent c.args.w.now c.args.h.now c.args.b.now) a.t.now (ne_eqb _ _ c.if-t-ne-COUNT.true) a.kind a.s.now
+    a.out.now
 
 pub returns : goal.returns
 returns c = λ x.

@@ -16,7 +16,8 @@ pub returns : goal.returns
 returns c = λ x.
     let a = c.args in
     rw c.reported-outcome.ensures
-    (reported-at a.t.now _ (eq-eqb _ _ c.if-t-ne-COUNT.false) c.count_in.ensures.0 x (lent c.args.w.now c.args.h.now c.args.b.now) (lent c.args.w.now c.args.h.now c.args.b.now) refl
+    (reported-at a.t.now _ (eq-eqb _ _ c.if-t-ne-COUNT.false) c.count_in.ensures.0 x (lent c.args.w.now c.args.h.now c.args.b.now)
+    (lent c.args.w.now c.args.h.now c.args.b.now) refl
     c.report-o.result a.out.now _
     (c.count_in.ensures.1
     ∙ ap (λ (o : Outcome). tallied (totals_of a.t.now) (event_of o)) c.reported-outcome.ensures) c.report-o.ensures)

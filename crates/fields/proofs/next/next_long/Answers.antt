@@ -24,4 +24,8 @@ returns-in-Cut c = rw (
 
 pub returns-else-is_accepted-wanted : goal.returns-else-is_accepted-wanted
 unfolding next_long next
-returns-else-is_accepted-wanted c = rw (c.none32-else-is_accepted-wanted.ensures, ← c.is_accepted.ensures, c.if-is_accepted-wanted.false)
+returns-else-is_accepted-wanted c = rw (
+  c.none32-else-is_accepted-wanted.ensures,
+  ← c.is_accepted.ensures,
+  c.if-is_accepted-wanted.false,
+)

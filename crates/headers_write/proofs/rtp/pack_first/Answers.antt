@@ -23,7 +23,8 @@ joined v n p x hv hn =
       place4,
       or-place (v * 64) v 6 (bool_byte p * 32) refl (omega arith),
       or-place (v * 64 + bool_byte p * 32) (v * 2 + bool_byte p) 5 (bool_byte x * 16) (omega arith) (omega arith),
-      or-place (v * 64 + bool_byte p * 32 + bool_byte x * 16) (v * 4 + bool_byte p * 2 + bool_byte x) 4 n (omega arith) (omega arith),
+      or-place (v * 64 + bool_byte p * 32 + bool_byte x * 16) (v * 4 + bool_byte p * 2 + bool_byte x) 4 n (omega arith)
+          (omega arith),
       bool-digit p,
       bool-digit x,
     )

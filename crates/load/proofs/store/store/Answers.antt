@@ -40,13 +40,16 @@ loop-i-preserved c =
     )
 
 pub shape_of-w : goal.shape_of-w
-shape_of-w c = (fits-sizes _ c.loop-i.invariant.2.fit).words ∙ sym (sized-true (lent c.args.w.now c.args.h.now c.args.b.now) c.requires).words
+shape_of-w c = (fits-sizes _ c.loop-i.invariant.2.fit).words ∙ sym (sized-true (lent c.args.w.now c.args.h.now c.args.b.now)
+    c.requires).words
 
 pub shape_of-h : goal.shape_of-h
-shape_of-h c = (fits-sizes _ c.loop-i.invariant.2.fit).shorts ∙ sym (sized-true (lent c.args.w.now c.args.h.now c.args.b.now) c.requires).shorts
+shape_of-h c = (fits-sizes _ c.loop-i.invariant.2.fit).shorts ∙ sym (sized-true (lent c.args.w.now c.args.h.now c.args.b.now)
+    c.requires).shorts
 
 pub shape_of-b : goal.shape_of-b
-shape_of-b c = (fits-sizes _ c.loop-i.invariant.2.fit).bytes ∙ sym (sized-true (lent c.args.w.now c.args.h.now c.args.b.now) c.requires).bytes
+shape_of-b c = (fits-sizes _ c.loop-i.invariant.2.fit).bytes ∙ sym (sized-true (lent c.args.w.now c.args.h.now c.args.b.now)
+    c.requires).bytes
 
 pub returns : goal.returns
 returns c =

@@ -8,7 +8,8 @@ use Rattle.load.proofs.store.store.Given as goal
 
 abbrev pub invariant-loop-i : goal.invariant-loop-i
 invariant-loop-i l =
-    (length l.contexts ≡ 64) × (l.i ≤ 64) × Storing (table_of (lent l.initial.w l.initial.h l.initial.b)).settings l.contexts l.i (lent l.w l.h l.b)
+    (length l.contexts ≡ 64) × (l.i ≤ 64) × Storing (table_of (lent l.initial.w l.initial.h l.initial.b)).settings l.contexts l.i
+    (lent l.w l.h l.b)
 
 abbrev pub decreases-loop-i : goal.decreases-loop-i
 decreases-loop-i l = 64 - l.i

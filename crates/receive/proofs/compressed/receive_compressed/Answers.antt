@@ -54,11 +54,11 @@ pub overflow_cast-i : goal.overflow_cast-i
 overflow_cast-i c =
     let l = lent c.args.w.now c.args.h.now c.args.b.now in
     (omega (
-  arith,
-  c.if-b-number.false,
-  sound-most (table_of l) c.requires.1,
-  table_of-contexts l c.requires.0,
-))
+      arith,
+      c.if-b-number.false,
+      sound-most (table_of l) c.requires.1,
+      table_of-contexts l c.requires.0,
+    ))
 
 pub context_at-context-requires : goal.context_at-context-requires
 context_at-context-requires c =
@@ -76,7 +76,8 @@ context_at-context-requires c =
     )
 
 found : (c : After-context_at-context)
-    → Found (lent c.args.w.now c.args.h.now c.args.b.now) (c.read_context-first.result.field.value) c.context_at-context.result c.read_head-head.result c.args.s.now
+    → Found (lent c.args.w.now c.args.h.now c.args.b.now) (c.read_context-first.result.field.value) c.context_at-context.result
+    c.read_head-head.result c.args.s.now
 found c =
     let l = lent c.args.w.now c.args.h.now c.args.b.now in
     let k = c.read_context-first in
@@ -96,7 +97,8 @@ found c =
     }
 
 compressed : (c : After-context_at-context) → let a = c.args in
-    found_on a.old a.kind (table_of (lent c.args.w.now c.args.h.now c.args.b.now)) (c.read_context-first.result.field.value) a.s.now a.out.now
+    found_on a.old a.kind (table_of (lent c.args.w.now c.args.h.now c.args.b.now)) (c.read_context-first.result.field.value)
+    a.s.now a.out.now
     ≡ receive_compressed a.old a.kind (table_of (lent c.args.w.now c.args.h.now c.args.b.now)) a.s.now a.out.now
 compressed c =
     let a = c.args in
@@ -121,7 +123,8 @@ returns-then-steady c =
     let f = found (goal.at.returns-then-steady c).After-context_at-context in
     let y = c.read_steady-steady.ensures c.if-steady.true in
     gives-by l _ _ _ _ (receive_compressed a.old a.kind (table_of l) a.s.now a.out.now)
-    (steady-found (table_of l) (c.read_context-first.result.field.value) c.context_at-context.result c.read_head-head.result a.s.now a.out.now _ _
+    (steady-found (table_of l) (c.read_context-first.result.field.value) c.context_at-context.result c.read_head-head.result
+    a.s.now a.out.now _ _
     (here l (c.read_context-first.result.field.value) f.fits f.place c.context_at-context.result f.context) y.1 a.old a.kind y.0
     f.head
     ∙ compressed (goal.at.returns-then-steady c).After-context_at-context)
@@ -134,5 +137,6 @@ pub returns : goal.returns
 returns c =
     let l = lent c.args.w.now c.args.h.now c.args.b.now in
     let a = c.args in
-    gives-by l _ _ _ _ (receive_compressed a.old a.kind (table_of l) a.s.now a.out.now) (compressed (goal.at.returns c).After-context_at-context)
+    gives-by l _ _ _ _ (receive_compressed a.old a.kind (table_of l) a.s.now a.out.now)
+    (compressed (goal.at.returns c).After-context_at-context)
     c.receive_found.ensures

@@ -24,5 +24,6 @@ returns c =
     let x = c.receive_on-taken in
     gives-placed (lent c.args.w.now c.args.h.now c.args.b.now) a.i f.fits f.place _ x.result _
     (found_on a.old a.kind (table_of (lent c.args.w.now c.args.h.now c.args.b.now)) a.i a.s.now a.out.now) c.put_context.ensures
-    (taken_here (lent c.args.w.now c.args.h.now c.args.b.now) a.i f.fits f.place a.c f.context a.old a.kind a.head a.s.now a.out.now _
+    (taken_here (lent c.args.w.now c.args.h.now c.args.b.now) a.i f.fits f.place a.c f.context a.old a.kind a.head a.s.now
+    a.out.now _
     x.result f.head x.ensures)

@@ -19,9 +19,12 @@ use Rattle.receive.proofs.full.accept_full.Goals as goal
 pub returns-then-out-size : goal.returns-then-out-size
 returns-then-out-size c =
     let a = c.args in
-    let e = length-full ((table_of (lent c.args.w.now c.args.h.now c.args.b.now))).settings.contexts a.s.now (AllBytes-elements a.s.now (λ i. (c.shared_slice_known-1.given i).fits)) c.requires.2 in
-    gives-kept (lent c.args.w.now c.args.h.now c.args.b.now) _ a.out.now (accept_full ((table_of (lent c.args.w.now c.args.h.now c.args.b.now))) a.s.now a.out.now)
-    (said-no_room ((table_of (lent c.args.w.now c.args.h.now c.args.b.now))) (full_table ((table_of (lent c.args.w.now c.args.h.now c.args.b.now))) (fh_of a.s.now))
+    let e = length-full ((table_of (lent c.args.w.now c.args.h.now c.args.b.now))).settings.contexts a.s.now
+    (AllBytes-elements a.s.now (λ i. (c.shared_slice_known-1.given i).fits)) c.requires.2 in
+    gives-kept (lent c.args.w.now c.args.h.now c.args.b.now) _ a.out.now
+    (accept_full ((table_of (lent c.args.w.now c.args.h.now c.args.b.now))) a.s.now a.out.now)
+    (said-no_room ((table_of (lent c.args.w.now c.args.h.now c.args.b.now)))
+    (full_table ((table_of (lent c.args.w.now c.args.h.now c.args.b.now))) (fh_of a.s.now))
     (packet_of (fh_of a.s.now).header (drop (fh_of a.s.now).start a.s.now)) a.out.now (rw (← e) c.if-out-size.true))
 
 pub read_fh-full-requires : goal.read_fh-full-requires
@@ -53,7 +56,12 @@ put_context-requires c =
     let a = c.args in (
       c.requires.0,
       rw c.read_fh-full.ensures
-          (omega (arith, fh_of-context a.s.now ((table_of (lent c.args.w.now c.args.h.now c.args.b.now))).settings.contexts c.requires.2, sound-most ((table_of (lent c.args.w.now c.args.h.now c.args.b.now))) c.requires.1)),
+          (omega (
+            arith,
+            fh_of-context a.s.now ((table_of (lent c.args.w.now c.args.h.now c.args.b.now))).settings.contexts
+                c.requires.2,
+            sound-most ((table_of (lent c.args.w.now c.args.h.now c.args.b.now))) c.requires.1,
+          )),
     )
 
 pub returns : goal.returns
@@ -67,12 +75,14 @@ returns c =
       part-rest a.s.now (fh_of a.s.now).start,
     ) at
     c.put_packet.ensures in
-    gives-full (lent c.args.w.now c.args.h.now c.args.b.now) _ c.read_fh-full.result.context (length a.s.now) c.fill-context.result _
+    gives-full (lent c.args.w.now c.args.h.now c.args.b.now) _ c.read_fh-full.result.context (length a.s.now) c.fill-context.result
+    _
     (accept_full ((table_of (lent c.args.w.now c.args.h.now c.args.b.now))) a.s.now a.out.now) c.put_context.ensures
     (rw (
       c.fill-context.ensures,
       c.read_fh-full.ensures,
     )
-    (said-accepted ((table_of (lent c.args.w.now c.args.h.now c.args.b.now))) (full_table ((table_of (lent c.args.w.now c.args.h.now c.args.b.now))) (fh_of a.s.now))
+    (said-accepted ((table_of (lent c.args.w.now c.args.h.now c.args.b.now)))
+    (full_table ((table_of (lent c.args.w.now c.args.h.now c.args.b.now))) (fh_of a.s.now))
     (packet_of (fh_of a.s.now).header (drop (fh_of a.s.now).start a.s.now)) a.out.now _ _
     (rw (← e) c.if-out-size.false) e (wrote-front w (rw (← e) c.if-out-size.false))))

@@ -23,7 +23,8 @@ accept_full-requires c =
     let a = c.args in (
       c.requires.0,
       c.requires.1,
-      (ap (λ (k : ℕ). fh_judged k a.s.now) (table_of-contexts (lent c.args.w.now c.args.h.now c.args.b.now) c.requires.0) ∙ sym c.judge_fh.ensures) ∙ ap verdict_number c.in-Accepted.is,
+      (ap (λ (k : ℕ). fh_judged k a.s.now) (table_of-contexts (lent c.args.w.now c.args.h.now c.args.b.now) c.requires.0)
+          ∙ sym c.judge_fh.ensures) ∙ ap verdict_number c.in-Accepted.is,
       c.requires.2,
     )
 
@@ -33,12 +34,16 @@ returns-in-Accepted c =
     gives-by (lent c.args.w.now c.args.h.now c.args.b.now) _ c.accept_full.result _ (accept_full
     ((table_of (lent c.args.w.now c.args.h.now c.args.b.now))) a.s.now a.out.now)
     (receive_full ((table_of (lent c.args.w.now c.args.h.now c.args.b.now))) a.s.now a.out.now)
-    (full-good ((table_of (lent c.args.w.now c.args.h.now c.args.b.now))) a.s.now a.out.now ((ap (λ (k : ℕ). fh_judged k a.s.now) (table_of-contexts (lent c.args.w.now c.args.h.now c.args.b.now) c.requires.0) ∙ sym c.judge_fh.ensures) ∙ ap verdict_number c.in-Accepted.is))
+    (full-good ((table_of (lent c.args.w.now c.args.h.now c.args.b.now))) a.s.now a.out.now
+    ((ap (λ (k : ℕ). fh_judged k a.s.now) (table_of-contexts (lent c.args.w.now c.args.h.now c.args.b.now) c.requires.0)
+    ∙ sym c.judge_fh.ensures) ∙ ap verdict_number c.in-Accepted.is))
     c.accept_full.ensures
 
 pub returns-in-Refused : goal.returns-in-Refused
 returns-in-Refused c =
     let a = c.args in
-    gives-kept (lent c.args.w.now c.args.h.now c.args.b.now) _ a.out.now (receive_full ((table_of (lent c.args.w.now c.args.h.now c.args.b.now))) a.s.now a.out.now)
+    gives-kept (lent c.args.w.now c.args.h.now c.args.b.now) _ a.out.now
+    (receive_full ((table_of (lent c.args.w.now c.args.h.now c.args.b.now))) a.s.now a.out.now)
     (full-refused ((table_of (lent c.args.w.now c.args.h.now c.args.b.now))) a.s.now a.out.now c.in-Refused.why
-    ((ap (λ (k : ℕ). fh_judged k a.s.now) (table_of-contexts (lent c.args.w.now c.args.h.now c.args.b.now) c.requires.0) ∙ sym c.judge_fh.ensures) ∙ ap verdict_number c.in-Refused.is))
+    ((ap (λ (k : ℕ). fh_judged k a.s.now) (table_of-contexts (lent c.args.w.now c.args.h.now c.args.b.now) c.requires.0)
+    ∙ sym c.judge_fh.ensures) ∙ ap verdict_number c.in-Refused.is))

@@ -11,9 +11,11 @@ returns-then-contexts-s c = sym (record_with-context _ _ _ _ c.if-contexts-s.tru
 pub returns-then-flags-s : goal.returns-then-flags-s
 unfolding record_judged
 returns-then-flags-s c =
-    rw (← c.split_record-flags.ensures) (sym (record_with-bits _ _ c.split_record-flags.result _ c.if-contexts-s.false true c.if-flags-s.true))
+    rw (← c.split_record-flags.ensures) (sym (record_with-bits _ _ c.split_record-flags.result _ c.if-contexts-s.false true
+    c.if-flags-s.true))
 
 pub returns : goal.returns
 unfolding record_judged
 returns c =
-    rw (← c.split_record-flags.ensures) (sym (record_with-bits _ _ c.split_record-flags.result _ c.if-contexts-s.false false c.if-flags-s.false))
+    rw (← c.split_record-flags.ensures) (sym (record_with-bits _ _ c.split_record-flags.result _ c.if-contexts-s.false false
+    c.if-flags-s.false))
