@@ -173,8 +173,8 @@ module _ (all : List unsaved.Call) (es : List Sent) where
   are_fit (unsaved.arrival i output ∷ xs) = fits_in i && are_fit xs
   are_fit (unsaved.other ∷ xs) = are_fit xs
 
-  fits_in : (i : ℕ) → fits_in i ≡ true → unsaved.Fits all es i
-  fits_in i h c on gap =
+  fits_in-tested : (i : ℕ) → fits_in i ≡ true → unsaved.Fits all es i
+  fits_in-tested i h c on gap =
       let p = (and-eq-true_iff (on_zero (take i es)) _).0 h in
       fits-tested (context_of (unsaved.sent_in es i)) (gone_in i) (unsaved.sent_in es i).packet p.1 c on
       (subst Gap (losses-unsaved c all 0 (take i es) p.0) gap)
@@ -185,5 +185,5 @@ module _ (all : List unsaved.Call) (es : List Sent) where
   all_fit (unsaved.request q ∷ xs) h = all_fit xs h
   all_fit (unsaved.arrival i output ∷ xs) h =
       let p = (and-eq-true_iff (fits_in i) (are_fit xs)).0 h in
-      (fits_in i p.0, all_fit xs p.1)
+      (fits_in-tested i p.0, all_fit xs p.1)
   all_fit (unsaved.other ∷ xs) h = all_fit xs h
