@@ -3,6 +3,7 @@ use bench_packets::turns::make;
 use bench_shared::figures::least;
 use bench_timed::ends::{copy_timed, receive_timed, send_timed};
 use crtp::{CompressorLayout, DecompressorLayout};
+use std::time::CpuClock;
 
 // Microseconds of a round's 32,000 sends, receives and copies.
 #[derive(Clone, Copy)]
@@ -37,6 +38,7 @@ pub fn best(a: Times, b: Times) -> Times {
 
 // The packets of a batch over the link and back: the compressor's table is cw, ch and cb, the decompressor's dw, dh and db.
 fn cross(
+    rt: &impl CpuClock,
     cw: &mut [u32],
     ch: &mut [u16],
     cb: &mut [u8],
@@ -49,8 +51,8 @@ fn cross(
     lengths: &mut [usize],
     rebuilt: &mut [u8],
 ) -> Times {
-    let send = send_timed(cw, ch, cb, packets, links, kinds, lengths);
-    let receive = receive_timed(dw, dh, db, links, kinds, lengths, rebuilt);
+    let send = send_timed(rt, cw, ch, cb, packets, links, kinds, lengths);
+    let receive = receive_timed(rt, dw, dh, db, links, kinds, lengths, rebuilt);
     Times {
         send: send,
         receive: receive,
@@ -60,6 +62,7 @@ fn cross(
 
 // What crossed is counted, and copied for the floor; the link packets are no longer needed then.
 fn settle(
+    rt: &impl CpuClock,
     s: Ends,
     crossed: Times,
     packets: &[u8],
@@ -70,7 +73,7 @@ fn settle(
 ) -> Ends {
     let counted = count_batch(s.tally, packets, links, kinds, lengths, rebuilt);
     let mut times = crossed;
-    times.copy = copy_timed(packets, links);
+    times.copy = copy_timed(rt, packets, links);
     Ends {
         tally: counted,
         times: later(s.times, times),
@@ -79,6 +82,7 @@ fn settle(
 
 // Batch i, made, over the link and back, counted and copied.
 fn batch(
+    rt: &impl CpuClock,
     cw: &mut [u32],
     ch: &mut [u16],
     cb: &mut [u8],
@@ -96,6 +100,7 @@ fn batch(
     let mut lengths = [0usize; 64];
     make(streams, i, &mut packets);
     let crossed = cross(
+        rt,
         cw,
         ch,
         cb,
@@ -108,10 +113,13 @@ fn batch(
         &mut lengths,
         &mut rebuilt,
     );
-    settle(s, crossed, &packets, &mut links, &kinds, &lengths, &rebuilt)
+    settle(
+        rt, s, crossed, &packets, &mut links, &kinds, &lengths, &rebuilt,
+    )
 }
 
 fn batches(
+    rt: &impl CpuClock,
     cw: &mut [u32],
     ch: &mut [u16],
     cb: &mut [u8],
@@ -130,14 +138,14 @@ fn batches(
     };
     let mut i = 0u32;
     while i < 500 {
-        s = batch(cw, ch, cb, dw, dh, db, streams, i, s);
+        s = batch(rt, cw, ch, cb, dw, dh, db, streams, i, s);
         i += 1;
     }
     s
 }
 
 // A round through both ends, which are opened for k contexts.
-pub fn round(streams: u32, k: u32) -> Ends {
+pub fn round(rt: &impl CpuClock, streams: u32, k: u32) -> Ends {
     let mut cw = [0u32; CompressorLayout::WORDS];
     let mut ch = [0u16; CompressorLayout::SHORTS];
     let mut cb = [0u8; CompressorLayout::BYTES];
@@ -147,6 +155,6 @@ pub fn round(streams: u32, k: u32) -> Ends {
     crtp::open_compressor(&mut cw, &mut ch, &mut cb, 2, k);
     crtp::open_decompressor(&mut dw, &mut dh, &mut db, 2, k);
     batches(
-        &mut cw, &mut ch, &mut cb, &mut dw, &mut dh, &mut db, streams,
+        rt, &mut cw, &mut ch, &mut cb, &mut dw, &mut dh, &mut db, streams,
     )
 }

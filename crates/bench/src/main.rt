@@ -11,19 +11,19 @@ mod show;
 mod through;
 
 use bench_shared::arguments::{Asked, arguments};
+use std::io;
+use std::time::CpuClock;
 
-fn run_all(timed: bool) {
-    round::run(64, 64, timed);
-    round::run(1, 64, timed);
-    round::run(1, 1, timed);
+fn run_all(rt: &(impl Print + CpuClock), timed: bool) -> io::Result<()> {
+    round::run(rt, 64, 64, timed)?;
+    round::run(rt, 1, 64, timed)?;
+    round::run(rt, 1, 1, timed)
 }
 
-fn main() {
-    match arguments() {
-        Asked::Plain => run_all(false),
-        Asked::Timed => run_all(true),
-        Asked::Unknown => {
-            io::write_all(1, b"usage: bench [time]\n");
-        }
+fn main(rt: HostRuntime) -> io::Result<()> {
+    match arguments(&rt) {
+        Asked::Plain => run_all(&rt, false),
+        Asked::Timed => run_all(&rt, true),
+        Asked::Unknown => rt.write_all(b"usage: bench [time]\n"),
     }
 }

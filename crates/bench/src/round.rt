@@ -2,23 +2,25 @@ use crate::ends::Times;
 use crate::show::{endpoint_line, line};
 use crate::through::Ways;
 use crate::{ends, through};
+use std::io;
+use std::time::CpuClock;
 
-fn best_times(streams: u32, k: u32, first: Times) -> Times {
+fn best_times(rt: &impl CpuClock, streams: u32, k: u32, first: Times) -> Times {
     let mut t = first;
     let mut i = 1u32;
     while i < 9 {
-        let r = ends::round(streams, k);
+        let r = ends::round(rt, streams, k);
         t = ends::best(t, r.times);
         i += 1;
     }
     t
 }
 
-fn best_ways(streams: u32, k: u32, first: Ways) -> Ways {
+fn best_ways(rt: &impl CpuClock, streams: u32, k: u32, first: Ways) -> Ways {
     let mut w = first;
     let mut i = 1u32;
     while i < 9 {
-        let r = through::round(streams, k);
+        let r = through::round(rt, streams, k);
         w = through::best(w, r.ways);
         i += 1;
     }
@@ -26,15 +28,14 @@ fn best_ways(streams: u32, k: u32, first: Ways) -> Ways {
 }
 
 // One configuration: so many streams through ends with k contexts, and where times are asked for through an endpoint too.
-pub fn run(streams: u32, k: u32, timed: bool) {
-    let r = ends::round(streams, k);
+pub fn run(rt: &(impl Print + CpuClock), streams: u32, k: u32, timed: bool) -> io::Result<()> {
+    let r = ends::round(rt, streams, k);
     if timed {
-        let times = best_times(streams, k, r.times);
-        line(streams, k, r.tally, times, true);
-        let t = through::round(streams, k);
-        let ways = best_ways(streams, k, t.ways);
-        endpoint_line(streams, k, t.tally, ways);
-        return;
+        let times = best_times(rt, streams, k, r.times);
+        line(rt, streams, k, r.tally, times, true)?;
+        let t = through::round(rt, streams, k);
+        let ways = best_ways(rt, streams, k, t.ways);
+        return endpoint_line(rt, streams, k, t.tally, ways);
     }
-    line(streams, k, r.tally, r.times, false);
+    line(rt, streams, k, r.tally, r.times, false)
 }

@@ -2,6 +2,7 @@ use crate::ends::Times;
 use crate::through::Ways;
 use bench_packets::tally::Tally;
 use bench_shared::figures::field;
+use std::io;
 
 // Picoseconds a packet.
 fn each(microseconds: u64) -> u64 {
@@ -9,31 +10,44 @@ fn each(microseconds: u64) -> u64 {
 }
 
 // What went over the link.
-fn work(streams: u32, k: u32, t: Tally) {
-    field(b"streams=", streams as u64);
-    field(b" k=", k as u64);
-    field(b" fh=", t.full as u64);
-    field(b" cu=", t.udp as u64);
-    field(b" cr=", t.rtp as u64);
-    field(b" header=", t.header as u64);
-    field(b" sum=", t.sum as u64);
-    field(b" exact=", t.exact as u64);
+fn work(rt: &impl Print, streams: u32, k: u32, t: Tally) -> io::Result<()> {
+    field(rt, b"streams=", streams as u64)?;
+    field(rt, b" k=", k as u64)?;
+    field(rt, b" fh=", t.full as u64)?;
+    field(rt, b" cu=", t.udp as u64)?;
+    field(rt, b" cr=", t.rtp as u64)?;
+    field(rt, b" header=", t.header as u64)?;
+    field(rt, b" sum=", t.sum as u64)?;
+    field(rt, b" exact=", t.exact as u64)
 }
 
-pub fn line(streams: u32, k: u32, t: Tally, times: Times, timed: bool) {
-    work(streams, k, t);
+pub fn line(
+    rt: &impl Print,
+    streams: u32,
+    k: u32,
+    t: Tally,
+    times: Times,
+    timed: bool,
+) -> io::Result<()> {
+    work(rt, streams, k, t)?;
     if timed {
-        field(b" send=", each(times.send));
-        field(b" receive=", each(times.receive));
-        field(b" copy=", each(times.copy));
+        field(rt, b" send=", each(times.send))?;
+        field(rt, b" receive=", each(times.receive))?;
+        field(rt, b" copy=", each(times.copy))?;
     }
-    io::write_all(1, b"\n");
+    rt.write_all(b"\n")
 }
 
 // The same of the endpoint.
-pub fn endpoint_line(streams: u32, k: u32, t: Tally, ways: Ways) {
-    work(streams, k, t);
-    field(b" from_wire=", each(ways.wire));
-    field(b" from_radio=", each(ways.radio));
-    io::write_all(1, b"\n");
+pub fn endpoint_line(
+    rt: &impl Print,
+    streams: u32,
+    k: u32,
+    t: Tally,
+    ways: Ways,
+) -> io::Result<()> {
+    work(rt, streams, k, t)?;
+    field(rt, b" from_wire=", each(ways.wire))?;
+    field(rt, b" from_radio=", each(ways.radio))?;
+    rt.write_all(b"\n")
 }

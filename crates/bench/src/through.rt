@@ -4,6 +4,7 @@ use bench_shared::figures::least;
 use bench_timed::through::{radio_timed, wire_timed};
 use crtp::{CompressorLayout, DecompressorLayout};
 use endpoint::Totals;
+use std::time::CpuClock;
 
 // Microseconds of a round's 32,000 calls from the wire and from the radio.
 #[derive(Clone, Copy)]
@@ -35,6 +36,7 @@ pub fn best(a: Ways, b: Ways) -> Ways {
 
 // The packets of a batch from the wire, and what became of them from the radio.
 fn cross(
+    rt: &impl CpuClock,
     cw: &mut [u32],
     ch: &mut [u16],
     cb: &mut [u8],
@@ -48,8 +50,10 @@ fn cross(
     lengths: &mut [usize],
     rebuilt: &mut [u8],
 ) -> Ways {
-    let wire = wire_timed(cw, ch, cb, t, packets, links, kinds, lengths);
-    let radio = radio_timed(cw, ch, cb, dw, dh, db, t, links, kinds, lengths, rebuilt);
+    let wire = wire_timed(rt, cw, ch, cb, t, packets, links, kinds, lengths);
+    let radio = radio_timed(
+        rt, cw, ch, cb, dw, dh, db, t, links, kinds, lengths, rebuilt,
+    );
     Ways {
         wire: wire,
         radio: radio,
@@ -58,6 +62,7 @@ fn cross(
 
 // Batch i, made, through the endpoint, and counted.
 fn batch(
+    rt: &impl CpuClock,
     cw: &mut [u32],
     ch: &mut [u16],
     cb: &mut [u8],
@@ -76,6 +81,7 @@ fn batch(
     let mut lengths = [0usize; 64];
     make(streams, i, &mut packets);
     let crossed = cross(
+        rt,
         cw,
         ch,
         cb,
@@ -96,6 +102,7 @@ fn batch(
 }
 
 fn batches(
+    rt: &impl CpuClock,
     cw: &mut [u32],
     ch: &mut [u16],
     cb: &mut [u8],
@@ -111,14 +118,14 @@ fn batches(
     };
     let mut i = 0u32;
     while i < 500 {
-        s = batch(cw, ch, cb, dw, dh, db, t, streams, i, s);
+        s = batch(rt, cw, ch, cb, dw, dh, db, t, streams, i, s);
         i += 1;
     }
     s
 }
 
 // A round through an endpoint that is opened for k contexts.
-pub fn round(streams: u32, k: u32) -> Through {
+pub fn round(rt: &impl CpuClock, streams: u32, k: u32) -> Through {
     let mut cw = [0u32; CompressorLayout::WORDS];
     let mut ch = [0u16; CompressorLayout::SHORTS];
     let mut cb = [0u8; CompressorLayout::BYTES];
@@ -130,6 +137,6 @@ pub fn round(streams: u32, k: u32) -> Through {
         &mut cw, &mut ch, &mut cb, &mut dw, &mut dh, &mut db, &mut t, 2, k,
     );
     batches(
-        &mut cw, &mut ch, &mut cb, &mut dw, &mut dh, &mut db, &mut t, streams,
+        rt, &mut cw, &mut ch, &mut cb, &mut dw, &mut dh, &mut db, &mut t, streams,
     )
 }

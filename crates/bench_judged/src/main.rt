@@ -11,20 +11,20 @@ mod round;
 mod show;
 
 use bench_shared::arguments::{Asked, arguments};
+use std::io;
+use std::time::CpuClock;
 
-fn run_all(timed: bool) {
-    show::run(200, false, timed);
-    show::run(200, true, timed);
-    show::run(1500, false, timed);
-    show::run(1500, true, timed);
+fn run_all(rt: &(impl Print + CpuClock), timed: bool) -> io::Result<()> {
+    show::run(rt, 200, false, timed)?;
+    show::run(rt, 200, true, timed)?;
+    show::run(rt, 1500, false, timed)?;
+    show::run(rt, 1500, true, timed)
 }
 
-fn main() {
-    match arguments() {
-        Asked::Plain => run_all(false),
-        Asked::Timed => run_all(true),
-        Asked::Unknown => {
-            io::write_all(1, b"usage: bench_judged [time]\n");
-        }
+fn main(rt: HostRuntime) -> io::Result<()> {
+    match arguments(&rt) {
+        Asked::Plain => run_all(&rt, false),
+        Asked::Timed => run_all(&rt, true),
+        Asked::Unknown => rt.write_all(b"usage: bench_judged [time]\n"),
     }
 }

@@ -3,6 +3,7 @@ ghost use Rattle.std.specs.Prelude.{◌≡◌, ◌≤◌, length};
 use crate::frames::{head_size, put_compressed, put_full};
 use bench_shared::clock::{now, passed};
 use crtp::{DecompressorLayout, DecompressorOutcome};
+use std::time::CpuClock;
 
 // A decompressor's table.
 type Words = [u32; DecompressorLayout::WORDS];
@@ -57,10 +58,18 @@ pub struct Round {
     pub time: u64,
 }
 
-fn receive_timed(w: Words, h: Shorts, b: Bytes, link: &[u8], out: &mut [u8], count: u32) -> Round {
-    let from = now();
+fn receive_timed(
+    rt: &impl CpuClock,
+    w: Words,
+    h: Shorts,
+    b: Bytes,
+    link: &[u8],
+    out: &mut [u8],
+    count: u32,
+) -> Round {
+    let from = now(rt);
     let accepted = receive_again(w, h, b, link, out, count);
-    let to = now();
+    let to = now(rt);
     let size = out.len();
     Round {
         accepted: accepted,
@@ -70,7 +79,15 @@ fn receive_timed(w: Words, h: Shorts, b: Bytes, link: &[u8], out: &mut [u8], cou
 }
 
 // The arrivals at a table that is ready.
-fn arrive(w: Words, h: Shorts, b: Bytes, size: u16, carried: bool, count: u32) -> Round
+fn arrive(
+    rt: &impl CpuClock,
+    w: Words,
+    h: Shorts,
+    b: Bytes,
+    size: u16,
+    carried: bool,
+    count: u32,
+) -> Round
     requires { (40 ≤ size) × (size ≤ 1500) }
 {
     let mut link = [0u8; 1500];
@@ -78,15 +95,15 @@ fn arrive(w: Words, h: Shorts, b: Bytes, size: u16, carried: bool, count: u32) -
     put_compressed(&mut link, size, carried);
     let whole = size as usize;
     let end = head_size(carried) + (whole - 40);
-    receive_timed(w, h, b, &link[0..end], &mut out[0..whole], count)
+    receive_timed(rt, w, h, b, &link[0..end], &mut out[0..whole], count)
 }
 
-pub fn run_round(size: u16, carried: bool, count: u32) -> Round
+pub fn run_round(rt: &impl CpuClock, size: u16, carried: bool, count: u32) -> Round
     requires { (40 ≤ size) × (size ≤ 1500) }
 {
     let mut w = [0u32; DecompressorLayout::WORDS];
     let mut h = [0u16; DecompressorLayout::SHORTS];
     let mut b = [0u8; DecompressorLayout::BYTES];
     make_ready(&mut w, &mut h, &mut b, size, carried);
-    arrive(w, h, b, size, carried, count)
+    arrive(rt, w, h, b, size, carried, count)
 }

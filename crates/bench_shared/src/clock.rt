@@ -1,11 +1,17 @@
-// A reading that the clock refused, -1, counts as 0.
-fn natural(n: i64) -> u64 {
-    if n > 0 { n as u64 } else { 0 }
+use std::io;
+use std::time::{CpuClock, Duration};
+
+// A reading that the clock refused, or that is too long for the answer, counts as 0.
+fn natural(reading: io::Result<Duration>) -> u64 {
+    match reading {
+        Ok(time) => u64::try_from(time.as_micros()).unwrap_or(0),
+        Err(_) => 0,
+    }
 }
 
-// Processor time in microseconds.
-pub fn now() -> u64 {
-    natural(libc::clock())
+// Processor time of the process in microseconds.
+pub fn now(rt: &impl CpuClock) -> u64 {
+    natural(rt.process_cpu_time())
 }
 
 // Microseconds from one reading to a later one.

@@ -1,7 +1,9 @@
+use std::io;
+
 // A figure with its name.
-pub fn field(name: &[u8], n: u64) {
-    io::write_all(1, name);
-    io::print_decimal(1, n);
+pub fn field(rt: &impl Print, name: &[u8], n: u64) -> io::Result<()> {
+    rt.write_all(name)?;
+    rt.print(n)
 }
 
 pub fn least(a: u64, b: u64) -> u64 {

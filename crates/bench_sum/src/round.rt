@@ -2,6 +2,7 @@ ghost use Rattle.std.specs.Prelude.{◌≤◌, ◌≡◌, length};
 
 use crate::former;
 use bench_shared::clock::{now, passed};
+use std::time::CpuClock;
 
 // The bytes that are summed.
 fn fill() -> [u8; 1564] {
@@ -51,15 +52,15 @@ pub struct Round {
     pub after_each_time: u64,
 }
 
-pub fn run_round(size: usize, count: u32) -> Round
+pub fn run_round(rt: &impl CpuClock, size: usize, count: u32) -> Round
     requires { size ≤ 1500 }
 {
     let bytes = fill();
-    let first = now();
+    let first = now(rt);
     let a = at_end(&bytes, size, count);
-    let second = now();
+    let second = now(rt);
     let b = after_each(&bytes, size, count);
-    let third = now();
+    let third = now(rt);
     Round {
         at_end: a,
         after_each: b,

@@ -2,6 +2,8 @@ ghost use Rattle.std.specs.Prelude.{◌≤◌};
 
 use crate::round::{Round, run_round};
 use bench_shared::figures::{field, least};
+use std::io;
+use std::time::CpuClock;
 
 // Picoseconds a sum.
 fn picoseconds(microseconds: u64, count: u32) -> u64 {
@@ -20,34 +22,34 @@ fn best(a: Round, b: Round) -> Round {
     }
 }
 
-fn best_of_nine(size: usize, count: u32, first: Round) -> Round
+fn best_of_nine(rt: &impl CpuClock, size: usize, count: u32, first: Round) -> Round
     requires { size ≤ 1500 }
 {
     let mut r = first;
     let mut i = 1u32;
     while i < 9 {
-        r = best(r, run_round(size, count));
+        r = best(r, run_round(rt, size, count));
         i += 1;
     }
     r
 }
 
 // One length: what was summed, and where asked what it cost.
-pub fn run(size: usize, count: u32, timed: bool)
+pub fn run(rt: &(impl Print + CpuClock), size: usize, count: u32, timed: bool) -> io::Result<()>
     requires { size ≤ 1500 }
 {
-    let first = run_round(size, count);
-    field(b"bytes=", size as u64);
-    field(b" sums=", count as u64);
-    field(b" last=", first.at_end as u64);
+    let first = run_round(rt, size, count);
+    field(rt, b"bytes=", size as u64)?;
+    field(rt, b" sums=", count as u64)?;
+    field(rt, b" last=", first.at_end as u64)?;
     // both ways give the same, or a field more would show it
     if first.at_end != first.after_each {
-        field(b" differs=", first.after_each as u64);
+        field(rt, b" differs=", first.after_each as u64)?;
     }
     if timed {
-        let r = best_of_nine(size, count, first);
-        field(b" at_end=", picoseconds(r.at_end_time, count));
-        field(b" after_each=", picoseconds(r.after_each_time, count));
+        let r = best_of_nine(rt, size, count, first);
+        field(rt, b" at_end=", picoseconds(r.at_end_time, count))?;
+        field(rt, b" after_each=", picoseconds(r.after_each_time, count))?;
     }
-    io::write_all(1, b"\n");
+    rt.write_all(b"\n")
 }

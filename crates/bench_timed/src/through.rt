@@ -1,6 +1,7 @@
 use bench_packets::turns::{Given, wide, within};
 use bench_shared::clock::{now, passed};
 use endpoint::Outcome;
+use std::time::CpuClock;
 
 // The packets of a batch through one endpoint: from the wire, and what it sent from the radio.
 
@@ -96,6 +97,7 @@ fn radio_all(
 
 // The microseconds that one way of a batch took.
 pub fn wire_timed(
+    rt: &impl CpuClock,
     w: &mut [u32],
     h: &mut [u16],
     b: &mut [u8],
@@ -105,13 +107,14 @@ pub fn wire_timed(
     kinds: &mut [u8],
     lengths: &mut [usize],
 ) -> u64 {
-    let from = now();
+    let from = now(rt);
     wire_all(w, h, b, t, packets, links, kinds, lengths);
-    let to = now();
+    let to = now(rt);
     passed(from, to)
 }
 
 pub fn radio_timed(
+    rt: &impl CpuClock,
     cw: &mut [u32],
     ch: &mut [u16],
     cb: &mut [u8],
@@ -124,8 +127,8 @@ pub fn radio_timed(
     lengths: &[usize],
     rebuilt: &mut [u8],
 ) -> u64 {
-    let from = now();
+    let from = now(rt);
     radio_all(cw, ch, cb, dw, dh, db, t, links, kinds, lengths, rebuilt);
-    let to = now();
+    let to = now(rt);
     passed(from, to)
 }

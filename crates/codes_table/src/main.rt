@@ -5,86 +5,76 @@
 
 use codes::code::Code;
 use codes::cursor::{Cursor, ReadDelta32};
+use std::io;
 
-fn text(s: &[u8]) {
-    io::write_all(1, s);
+fn text(rt: &impl Print, s: &[u8]) -> io::Result<()> {
+    rt.write_all(s)
 }
 
-fn print_byte(b: u8) {
-    text(b" ");
-    io::print_hex(1, b as u64, 2);
+fn print_byte(rt: &impl Print, b: u8) -> io::Result<()> {
+    print!(rt; " {b:02x}")
 }
 
 // A difference of 32 bits as a number with a sign.
-fn print_signed(d: u32) {
+fn print_signed(rt: &impl Print, d: u32) -> io::Result<()> {
     if d < 2147483648 {
-        io::print_decimal(1, d as u64);
+        rt.print(d)
     } else {
-        text(b"-");
-        io::print_decimal(1, (4294967295 - d) as u64 + 1);
+        text(rt, b"-")?;
+        rt.print((4294967295 - d) as u64 + 1)
     }
 }
 
-fn print_code(c: Code) {
+fn print_code(rt: &impl Print, c: Code) -> io::Result<()> {
     match c {
-        Code::One(x) => {
-            print_byte(x);
-        }
+        Code::One(x) => print_byte(rt, x),
         Code::Two(x, y) => {
-            print_byte(x);
-            print_byte(y);
+            print_byte(rt, x)?;
+            print_byte(rt, y)
         }
         Code::Three(x, y, z) => {
-            print_byte(x);
-            print_byte(y);
-            print_byte(z);
+            print_byte(rt, x)?;
+            print_byte(rt, y)?;
+            print_byte(rt, z)
         }
-        Code::NoCode => {
-            text(b" no code");
-        }
+        Code::NoCode => text(rt, b" no code"),
     }
 }
 
 // What the cursor makes of three bytes.
-fn print_read(bytes: &[u8]) {
+fn print_read(rt: &impl Print, bytes: &[u8]) -> io::Result<()> {
     let start = Cursor { at: 0 };
     match start.delta32(bytes) {
-        ReadDelta32::Delta(d, _) => {
-            print_signed(d);
-        }
-        ReadDelta32::Cut => {
-            text(b"refused 4");
-        }
-        ReadDelta32::Unused => {
-            text(b"refused 7");
-        }
+        ReadDelta32::Delta(d, _) => print_signed(rt, d)?,
+        ReadDelta32::Cut => text(rt, b"refused 4")?,
+        ReadDelta32::Unused => text(rt, b"refused 7")?,
     }
-    text(b"\n");
+    text(rt, b"\n")
 }
 
-fn show(d: u32) {
-    print_signed(d);
-    text(b" is");
-    print_code(codes::code::code32(d));
-    text(b"\n");
+fn show(rt: &impl Print, d: u32) -> io::Result<()> {
+    print_signed(rt, d)?;
+    text(rt, b" is")?;
+    print_code(rt, codes::code::code32(d))?;
+    text(rt, b"\n")
 }
 
-fn main() {
-    show(0);
-    show(127);
-    show(4294967168);
-    show(4294967295);
-    show(128);
-    show(16383);
-    show(4294950912);
-    show(4294967167);
-    show(16384);
-    show(4194303);
-    show(4194304);
-    text(b"c0 3f 7f reads as ");
-    print_read(b"\xC0\x3F\x7F");
-    text(b"c0 3f 80 reads as ");
-    print_read(b"\xC0\x3F\x80");
-    text(b"c0 3f reads as ");
-    print_read(b"\xC0\x3F");
+fn main(rt: HostRuntime) -> io::Result<()> {
+    show(&rt, 0)?;
+    show(&rt, 127)?;
+    show(&rt, 4294967168)?;
+    show(&rt, 4294967295)?;
+    show(&rt, 128)?;
+    show(&rt, 16383)?;
+    show(&rt, 4294950912)?;
+    show(&rt, 4294967167)?;
+    show(&rt, 16384)?;
+    show(&rt, 4194303)?;
+    show(&rt, 4194304)?;
+    text(&rt, b"c0 3f 7f reads as ")?;
+    print_read(&rt, b"\xC0\x3F\x7F")?;
+    text(&rt, b"c0 3f 80 reads as ")?;
+    print_read(&rt, b"\xC0\x3F\x80")?;
+    text(&rt, b"c0 3f reads as ")?;
+    print_read(&rt, b"\xC0\x3F")
 }

@@ -11,11 +11,17 @@ mod run;
 mod show;
 mod stream;
 
-fn main() {
+use std::io;
+
+fn main(rt: HostRuntime) -> io::Result<()> {
     show::text(
+        &rt,
         b"each turn arm and desk send a packet of speech; both are opened for 2 packets lost in a row\n",
-    );
-    show::text(b"not shown: packets that go as CR and are rebuilt exactly\n");
+    )?;
+    show::text(
+        &rt,
+        b"not shown: packets that go as CR and are rebuilt exactly\n",
+    )?;
     let arm = place::opened(2, 4);
     let desk = place::opened(2, 4);
     let none = show::Count {
@@ -34,20 +40,20 @@ fn main() {
     };
     let mut turn = 0;
     while turn < stream::TURNS {
-        let half = run::half_turn(link, turn);
-        link = run::half_turn(half, turn);
+        let half = run::half_turn(&rt, link, turn)?;
+        link = run::half_turn(&rt, half, turn)?;
         turn += 1;
     }
     let there = link.count;
     let back = link.back;
-    show::print_count(true, there);
-    show::print_count(false, back);
+    show::print_count(&rt, true, there)?;
+    show::print_count(&rt, false, back)?;
     let one = link.sender;
     let other = link.receiver;
-    show::text(b"arm:  ");
+    show::text(&rt, b"arm:  ")?;
     let totals = one.totals;
-    show::print_totals(totals);
-    show::text(b"desk: ");
+    show::print_totals(&rt, totals)?;
+    show::text(&rt, b"desk: ")?;
     let totals = other.totals;
-    show::print_totals(totals);
+    show::print_totals(&rt, totals)
 }

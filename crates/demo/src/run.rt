@@ -3,6 +3,7 @@ use crate::place::Place;
 use crate::show::{Count, Crossing, Fate, print_crossing, print_report};
 use crate::stream::{PAYLOAD, ROOM, is_lost, put_packet};
 use endpoint::Outcome;
+use std::io;
 
 // One direction of the radio link: who sends, who receives, and what was counted of it; back is what was counted of the other one.
 #[derive(Clone, Copy)]
@@ -73,7 +74,7 @@ fn counted(c: Count, x: Crossing) -> Count {
 }
 
 // The sender's packet comes from the wire and crosses the radio, or is lost there. A CR that is rebuilt exactly is not shown.
-fn carry(l: Link, turn: u8) -> Link {
+fn carry(rt: &impl Print, l: Link, turn: u8) -> io::Result<Link> {
     let mut packet = [0u8; ROOM];
     let mut link = [0u8; ROOM];
     let length = put_packet(&mut packet, turn, l.from_arm);
@@ -86,7 +87,7 @@ fn carry(l: Link, turn: u8) -> Link {
     next.sender = one;
     let outcome = sent.outcome;
     let Outcome::Sent(kind, linked) = outcome else {
-        return next;
+        return Ok(next);
     };
     let receiver = l.receiver;
     let lost = l.from_arm & is_lost(turn);
@@ -103,18 +104,18 @@ fn carry(l: Link, turn: u8) -> Link {
     let old = l.count;
     let new = counted(old, crossing);
     if (kind < 3) | (new.exact == old.exact) {
-        print_crossing(crossing);
+        print_crossing(rt, crossing)?;
     }
     let other = arrived.place;
     next.receiver = other;
     next.count = new;
-    next
+    Ok(next)
 }
 
 // Every fifth turn the receiver reports over the radio what is broken, if anything is.
-fn report(l: Link, turn: u8) -> Link {
+fn report(rt: &impl Print, l: Link, turn: u8) -> io::Result<Link> {
     if turn % 5 != 4 {
-        return l;
+        return Ok(l);
     }
     let mut out = [0u8; ROOM];
     let receiver = l.receiver;
@@ -124,12 +125,12 @@ fn report(l: Link, turn: u8) -> Link {
     next.receiver = other;
     let outcome = said.outcome;
     let Outcome::Reported(n) = outcome else {
-        return next;
+        return Ok(next);
     };
     if n == 0 {
-        return next;
+        return Ok(next);
     }
-    print_report(turn, l.from_arm, n);
+    print_report(rt, turn, l.from_arm, n)?;
     let mut nothing = [0u8; 1];
     let sender = l.sender;
     let asked = place::from_radio(
@@ -140,22 +141,22 @@ fn report(l: Link, turn: u8) -> Link {
     );
     let one = asked.place;
     next.sender = one;
-    next
+    Ok(next)
 }
 
 // One sends and hears the other's report; then they change places.
-pub fn half_turn(l: Link, turn: u8) -> Link {
-    let carried = carry(l, turn);
-    let told = report(carried, turn);
+pub fn half_turn(rt: &impl Print, l: Link, turn: u8) -> io::Result<Link> {
+    let carried = carry(rt, l, turn)?;
+    let told = report(rt, carried, turn)?;
     let sender = told.receiver;
     let receiver = told.sender;
     let count = told.back;
     let back = told.count;
-    Link {
+    Ok(Link {
         from_arm: !told.from_arm,
         sender: sender,
         receiver: receiver,
         count: count,
         back: back,
-    }
+    })
 }

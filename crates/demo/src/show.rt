@@ -1,5 +1,6 @@
 use crate::stream::voice_at;
 use endpoint::{Refusal, Totals};
+use std::io;
 
 // What became of a packet on its way; a rebuilt one is exactly the packet that went in, or it is not.
 #[derive(Clone, Copy)]
@@ -30,110 +31,110 @@ pub struct Count {
     pub after: u32,
 }
 
-pub fn text(s: &[u8]) {
-    io::write_all(1, s);
+pub fn text(rt: &impl Print, s: &[u8]) -> io::Result<()> {
+    rt.write_all(s)
 }
 
 // A number with a space before it where it has one digit.
-fn column(n: u32) {
+fn column(rt: &impl Print, n: u32) -> io::Result<()> {
     if n < 10 {
-        text(b" ");
+        text(rt, b" ")?;
     }
-    io::print_decimal(1, n as u64);
+    rt.print(n)
 }
 
-fn print_direction(from_arm: bool) {
+fn print_direction(rt: &impl Print, from_arm: bool) -> io::Result<()> {
     if from_arm {
-        text(b"arm to desk");
+        text(rt, b"arm to desk")
     } else {
-        text(b"desk to arm");
+        text(rt, b"desk to arm")
     }
 }
 
-fn print_fate(f: Fate) {
+fn print_fate(rt: &impl Print, f: Fate) -> io::Result<()> {
     match f {
-        Fate::Lost => text(b"lost\n"),
+        Fate::Lost => text(rt, b"lost\n"),
         Fate::Rebuilt(exact) => {
             if exact {
-                text(b"rebuilt exactly\n");
+                text(rt, b"rebuilt exactly\n")
             } else {
-                text(b"REBUILT WRONG\n");
+                text(rt, b"REBUILT WRONG\n")
             }
         }
         Fate::Refused(r) => match r {
-            Refusal::NotLive => text(b"refused 8: its context is not live\n"),
-            Refusal::OutOfStep => text(b"refused 9: out of step\n"),
-            _ => text(b"REFUSED\n"),
+            Refusal::NotLive => text(rt, b"refused 8: its context is not live\n"),
+            Refusal::OutOfStep => text(rt, b"refused 9: out of step\n"),
+            _ => text(rt, b"REFUSED\n"),
         },
     }
 }
 
 // Where and what the packet is, its link type, the bytes of its header before and on the link, and what became of it.
-pub fn print_crossing(c: Crossing) {
+pub fn print_crossing(rt: &impl Print, c: Crossing) -> io::Result<()> {
     let v = voice_at(c.turn);
-    column(c.turn as u32);
-    text(b"  ");
-    print_direction(c.from_arm);
-    text(b"  timestamp ");
-    column(v.timestamp);
-    text(b"  payload type ");
-    column(v.payload);
-    text(b"  CSRC ");
-    io::print_decimal(1, v.sources as u64);
+    column(rt, c.turn as u32)?;
+    text(rt, b"  ")?;
+    print_direction(rt, c.from_arm)?;
+    text(rt, b"  timestamp ")?;
+    column(rt, v.timestamp)?;
+    text(rt, b"  payload type ")?;
+    column(rt, v.payload)?;
+    text(rt, b"  CSRC ")?;
+    rt.print(v.sources)?;
     if c.kind == 0 {
-        text(b"  plain");
+        text(rt, b"  plain")?;
     } else if c.kind == 1 {
-        text(b"  FH");
+        text(rt, b"  FH")?;
     } else if c.kind == 2 {
-        text(b"  CU");
+        text(rt, b"  CU")?;
     } else {
-        text(b"  CR");
+        text(rt, b"  CR")?;
     }
-    text(b"  header ");
-    column(c.before);
-    text(b" to ");
-    column(c.after);
-    text(b"  ");
+    text(rt, b"  header ")?;
+    column(rt, c.before)?;
+    text(rt, b" to ")?;
+    column(rt, c.after)?;
+    text(rt, b"  ")?;
     let fate = c.fate;
-    print_fate(fate);
+    print_fate(rt, fate)
 }
 
 // A report that goes against the direction of the packets that it is about.
-pub fn print_report(turn: u8, from_arm: bool, length: usize) {
-    column(turn as u32);
-    text(b"  ");
-    print_direction(!from_arm);
-    text(b"  report of ");
-    io::print_decimal(1, length as u64);
-    text(b" bytes: full headers are asked for\n");
+pub fn print_report(rt: &impl Print, turn: u8, from_arm: bool, length: usize) -> io::Result<()> {
+    column(rt, turn as u32)?;
+    text(rt, b"  ")?;
+    print_direction(rt, !from_arm)?;
+    text(rt, b"  report of ")?;
+    rt.print(length)?;
+    text(rt, b" bytes: full headers are asked for\n")
 }
 
-pub fn print_count(from_arm: bool, c: Count) {
-    print_direction(from_arm);
-    text(b": ");
-    column(c.sent);
-    text(b" packets, ");
-    column(c.lost);
-    text(b" lost, ");
-    column(c.exact);
-    text(b" rebuilt exactly; header bytes ");
-    column(c.before);
-    text(b" before, ");
-    column(c.after);
-    text(b" on the link\n");
+pub fn print_count(rt: &impl Print, from_arm: bool, c: Count) -> io::Result<()> {
+    print_direction(rt, from_arm)?;
+    text(rt, b": ")?;
+    column(rt, c.sent)?;
+    text(rt, b" packets, ")?;
+    column(rt, c.lost)?;
+    text(rt, b" lost, ")?;
+    column(rt, c.exact)?;
+    text(rt, b" rebuilt exactly; header bytes ")?;
+    column(rt, c.before)?;
+    text(rt, b" before, ")?;
+    column(rt, c.after)?;
+    text(rt, b" on the link\n")
 }
 
-pub fn print_totals(t: [u32; Totals::COUNT]) {
-    column(t[0]);
-    text(b" plain, ");
-    column(t[1]);
-    text(b" FH, ");
-    column(t[2]);
-    text(b" CU, ");
-    column(t[3]);
-    text(b" CR sent; ");
-    column(t[4]);
-    text(b" rebuilt; ");
-    column(t[5]);
-    text(b" refused\n");
+pub fn print_totals(rt: &impl Print, t: [u32; Totals::COUNT]) -> io::Result<()> {
+    column(rt, t[0])?;
+    text(rt, b" plain, ")?;
+    column(rt, t[1])?;
+    text(rt, b" FH, ")?;
+    column(rt, t[2])?;
+    text(rt, b" CU, ")?;
+    column(rt, t[3])?;
+    text(rt, b" CR sent; ")?;
+    column(rt, t[4])?;
+    text(rt, b" rebuilt; ")?;
+    column(rt, t[5])?;
+    text(rt, b" refused\n")
 }

@@ -15,23 +15,23 @@ use packet::parts::Parts;
 use packet::sent::{Sent8, Sent16, sent_if16, sent_if32};
 use refresh::cs::{put_count, put_record};
 use refresh::fh::put_fh;
+use std::io;
 
-fn text(s: &[u8]) {
-    io::write_all(1, s);
+fn text(rt: &impl Print, s: &[u8]) -> io::Result<()> {
+    rt.write_all(s)
 }
 
-fn print_byte(b: u8) {
-    text(b" ");
-    io::print_hex(1, b as u64, 2);
+fn print_byte(rt: &impl Print, b: u8) -> io::Result<()> {
+    print!(rt; " {b:02x}")
 }
 
-fn print_bytes(s: &[u8]) {
+fn print_bytes(rt: &impl Print, s: &[u8]) -> io::Result<()> {
     let mut i = 0;
     while i < s.len() {
-        print_byte(s[i]);
+        print_byte(rt, s[i])?;
         i += 1;
     }
-    text(b"\n");
+    text(rt, b"\n")
 }
 
 // The header of a packet of 40 bytes, for the full header's case.
@@ -101,54 +101,54 @@ fn parts(marker: bool, jump: bool) -> Parts
     }
 }
 
-fn show_fh(out: &mut [u8]) {
+fn show_fh(rt: &impl Print, out: &mut [u8]) -> io::Result<()> {
     let h = header();
     if out.len() < header_size(h) {
-        return;
+        return Ok(());
     }
     put_fh(out, 0, 3, 5, 9, 40, h);
-    text(b"context 3, generation 5, sequence 9, length fields:");
-    print_bytes(&out[2..4]);
-    text(b"and");
-    print_bytes(&out[24..26]);
+    text(rt, b"context 3, generation 5, sequence 9, length fields:")?;
+    print_bytes(rt, &out[2..4])?;
+    text(rt, b"and")?;
+    print_bytes(rt, &out[24..26])
 }
 
-fn show_cs(out: &mut [u8]) {
+fn show_cs(rt: &impl Print, out: &mut [u8]) -> io::Result<()> {
     if out.len() < 5 {
-        return;
+        return Ok(());
     }
     let at = put_count(out, 0, 1);
     put_record(out, at, 3, 4, 5);
-    text(b"report of that context, last sequence 4:");
-    print_bytes(&out[0..5]);
+    text(rt, b"report of that context, last sequence 4:")?;
+    print_bytes(rt, &out[0..5])
 }
 
-fn show_cr(out: &mut [u8]) {
+fn show_cr(rt: &impl Print, out: &mut [u8]) -> io::Result<()> {
     let h = parts(true, false);
     let size = cr_size(false, h);
     if out.len() < size {
-        return;
+        return Ok(());
     }
     put_cr(out, 0, 0, 6, false, h);
-    text(b"context 0, sequence 6, marker, nothing due:");
-    print_bytes(&out[0..size]);
+    text(rt, b"context 0, sequence 6, marker, nothing due:")?;
+    print_bytes(rt, &out[0..size])
 }
 
-fn show_cu(out: &mut [u8]) {
+fn show_cu(rt: &impl Print, out: &mut [u8]) -> io::Result<()> {
     let h = parts(false, true);
     let size = cu_size(false, h);
     if out.len() < size {
-        return;
+        return Ok(());
     }
     put_cu(out, 0, 0, 3, false, h);
-    text(b"context 0, sequence 3, timestamp 40, ID 1234:");
-    print_bytes(&out[0..size]);
+    text(rt, b"context 0, sequence 3, timestamp 40, ID 1234:")?;
+    print_bytes(rt, &out[0..size])
 }
 
-fn main() {
+fn main(rt: HostRuntime) -> io::Result<()> {
     let mut out = [0u8; 64];
-    show_fh(&mut out);
-    show_cs(&mut out);
-    show_cr(&mut out);
-    show_cu(&mut out);
+    show_fh(&rt, &mut out)?;
+    show_cs(&rt, &mut out)?;
+    show_cr(&rt, &mut out)?;
+    show_cu(&rt, &mut out)
 }
