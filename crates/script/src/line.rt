@@ -1,9 +1,10 @@
-ghost use Rattle.std.specs.Prelude.{◌≡◌};
+ghost use Rattle.std.specs.Prelude.{◌≡◌, IfOk};
 
-use libc::STDOUT_FILENO;
 use script_text::room::front;
 use script_text::text::put;
 use script_text::word::{Word, first_word, part};
+use std::io;
+use std::io::Write;
 
 // How far a run has come.
 //
@@ -41,50 +42,53 @@ fn line_of<'a>(buf: &'a [u8], s: State) -> &'a [u8] {
 }
 
 // The line end after an answer. Answers go out together; what is left of the text then has room for the longest one.
-fn end_answer(text: &mut [u8], at: usize) -> usize {
+fn end_answer(rt: &HostRuntime, text: &mut [u8], at: usize) -> io::Result<usize> {
     let past = put(text, at, b'\n');
     if 40000 < past {
-        io::write_all(STDOUT_FILENO, front(text, past));
-        return 0;
+        rt.stdout().write_all(front(text, past))?;
+        return Ok(0);
     }
-    past
+    Ok(past)
 }
 
 // After its answer a line waits no more.
-fn answered(s: State, text: &mut [u8], at: usize) -> State
-    ensures { (result.start ≡ s.start) × (result.filled ≡ s.filled) }
+fn answered(rt: &HostRuntime, s: State, text: &mut [u8], at: usize) -> io::Result<State>
+    ensures { IfOk result (λ r. (r.start ≡ s.start) × (r.filled ≡ s.filled)) }
 {
     let line = s.line;
-    State {
-        at: end_answer(text, at),
+    let at = end_answer(rt, text, at)?;
+    Ok(State {
+        at: at,
         line: line,
         waits: false,
         start: s.start,
         filled: s.filled,
-    }
+    })
 }
 
 // Each end runs the line that waits where it is a call of its own, and leaves it to the next where not.
 pub fn run_compressor(
+    rt: &HostRuntime,
     w: &mut [u32],
     h: &mut [u16],
     b: &mut [u8],
     buf: &[u8],
     s: State,
     text: &mut [u8],
-) -> State
-    ensures { (result.start ≡ s.start) × (result.filled ≡ s.filled) }
+) -> io::Result<State>
+    ensures { IfOk result (λ r. (r.start ≡ s.start) × (r.filled ≡ s.filled)) }
 {
     let line = line_of(buf, s);
     let word = first_word(line);
     if script_compressor::call::is_name(line, word) {
         let at = script_compressor::line::run_line(w, h, b, line, word, text, s.at);
-        return answered(s, text, at);
+        return answered(rt, s, text, at);
     }
-    s
+    Ok(s)
 }
 
 pub fn run_endpoint(
+    rt: &HostRuntime,
     cw: &mut [u32],
     ch: &mut [u16],
     cb: &mut [u8],
@@ -95,8 +99,8 @@ pub fn run_endpoint(
     buf: &[u8],
     s: State,
     text: &mut [u8],
-) -> State
-    ensures { (result.start ≡ s.start) × (result.filled ≡ s.filled) }
+) -> io::Result<State>
+    ensures { IfOk result (λ r. (r.start ≡ s.start) × (r.filled ≡ s.filled)) }
 {
     let line = line_of(buf, s);
     let word = first_word(line);
@@ -104,9 +108,9 @@ pub fn run_endpoint(
         let at = script_endpoint::line::run_line(
             cw, ch, cb, dw, dh, db, totals, line, word, text, s.at,
         );
-        return answered(s, text, at);
+        return answered(rt, s, text, at);
     }
-    s
+    Ok(s)
 }
 
 // A call of the decompressor's, or a line that is no call.
@@ -127,19 +131,20 @@ fn run_rest(
 
 // The last of the three, so that a line which still waits is the decompressor's or no call.
 pub fn run_decompressor(
+    rt: &HostRuntime,
     w: &mut [u32],
     h: &mut [u16],
     b: &mut [u8],
     buf: &[u8],
     s: State,
     text: &mut [u8],
-) -> State
-    ensures { (result.start ≡ s.start) × (result.filled ≡ s.filled) }
+) -> io::Result<State>
+    ensures { IfOk result (λ r. (r.start ≡ s.start) × (r.filled ≡ s.filled)) }
 {
     if s.waits {
         let line = line_of(buf, s);
         let at = run_rest(w, h, b, line, first_word(line), text, s.at);
-        return answered(s, text, at);
+        return answered(rt, s, text, at);
     }
-    s
+    Ok(s)
 }

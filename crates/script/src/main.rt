@@ -9,6 +9,8 @@
 mod line;
 mod turn;
 
-fn main() {
-    turn::run();
+use std::io;
+
+fn main(rt: HostRuntime) -> io::Result<()> {
+    turn::run(&rt)
 }

@@ -1,11 +1,12 @@
-ghost use Rattle.std.specs.Prelude.{◌≤◌, ◌<◌, length};
+ghost use Rattle.std.specs.Prelude.{◌≤◌, ◌<◌, IfOk, length};
 
 use crate::line::{State, run_compressor, run_decompressor, run_endpoint, uncut};
 use crtp::{CompressorLayout, DecompressorLayout};
 use endpoint::Totals;
-use libc::{STDIN_FILENO, STDOUT_FILENO};
 use script_text::room::{front, least};
 use script_text::word::Word;
+use std::io;
+use std::io::{Read, Write};
 
 // The next line end from a place on, or the end of what the buffer is filled with.
 fn line_end(buf: &[u8], at: usize, filled: usize) -> usize
@@ -53,36 +54,35 @@ fn end_last(buf: &mut [u8], kept: usize) -> usize
 }
 
 // One read after what is kept; answers how far the buffer is filled then, 0 where the input has ended.
-fn read_more(buf: &mut [u8], kept: usize) -> usize
+fn read_more(rt: &HostRuntime, buf: &mut [u8], kept: usize) -> io::Result<usize>
     requires { kept ≤ length buf.old }
-    ensures { result ≤ length buf.new }
+    ensures { IfOk result (λ r. r ≤ length buf.new) }
 {
-    let got = libc::read(STDIN_FILENO, &mut buf[kept..]);
-    let n = io::count(got, &buf[kept..]);
+    let n = rt.stdin().read(&mut buf[kept..])?;
     if n == 0 {
-        return end_last(buf, kept);
+        return Ok(end_last(buf, kept));
     }
-    kept + n
+    Ok(kept + n)
 }
 
 // The answers so far go out, and the input is read on after what begins at the start.
-fn read_on(s: State, buf: &mut [u8], text: &[u8]) -> State
+fn read_on(rt: &HostRuntime, s: State, buf: &mut [u8], text: &[u8]) -> io::Result<State>
     requires { (s.start ≤ s.filled) × (s.filled ≤ length buf.old) }
-    ensures { (result.start ≤ result.filled) × (result.filled ≤ length buf.new) }
+    ensures { IfOk result (λ r. (r.start ≤ r.filled) × (r.filled ≤ length buf.new)) }
 {
-    io::write_all(STDOUT_FILENO, front(text, s.at));
+    rt.stdout().write_all(front(text, s.at))?;
     let kept = keep(buf, s.start, s.filled);
-    uncut(read_more(buf, kept))
+    Ok(uncut(read_more(rt, buf, kept)?))
 }
 
 // Cuts the next line; where none is whole, the input is read on. Nothing is filled where it has ended.
-fn next_line(s: State, buf: &mut [u8], text: &[u8]) -> State
+fn next_line(rt: &HostRuntime, s: State, buf: &mut [u8], text: &[u8]) -> io::Result<State>
     requires { (s.start ≤ s.filled) × (s.filled ≤ length buf.old) }
-    ensures { (result.start ≤ result.filled) × (result.filled ≤ length buf.new) }
+    ensures { IfOk result (λ r. (r.start ≤ r.filled) × (r.filled ≤ length buf.new)) }
 {
     let end = line_end(buf, s.start, s.filled);
     if end < s.filled {
-        return State {
+        return Ok(State {
             at: s.at,
             line: Word {
                 at: s.start,
@@ -91,17 +91,17 @@ fn next_line(s: State, buf: &mut [u8], text: &[u8]) -> State
             waits: true,
             start: end + 1,
             filled: s.filled,
-        };
+        });
     }
-    read_on(s, buf, text)
+    read_on(rt, s, buf, text)
 }
 
 // Every table is one of zeros at first, which is not open: calls on it are refused 1.
 //
 // Nothing says that an input ends, and a proved loop has to: it counts its turns down from a number that no run uses up.
-pub fn run() {
-    let mut buf = io::large_buffer();
-    let mut text = io::large_buffer();
+pub fn run(rt: &HostRuntime) -> io::Result<()> {
+    let mut buf = [0u8; 65536];
+    let mut text = [0u8; 65536];
     let mut cw = [0u32; CompressorLayout::WORDS];
     let mut ch = [0u16; CompressorLayout::SHORTS];
     let mut cb = [0u8; CompressorLayout::BYTES];
@@ -119,12 +119,13 @@ pub fn run() {
     let mut turns = u64::MAX;
     while 0 < turns {
         turns -= 1;
-        s = next_line(s, &mut buf, &text);
+        s = next_line(rt, s, &mut buf, &text)?;
         if s.filled == 0 {
-            return;
+            return Ok(());
         }
-        s = run_compressor(&mut cw, &mut ch, &mut cb, &buf, s, &mut text);
+        s = run_compressor(rt, &mut cw, &mut ch, &mut cb, &buf, s, &mut text)?;
         s = run_endpoint(
+            rt,
             &mut ecw,
             &mut ech,
             &mut ecb,
@@ -135,7 +136,8 @@ pub fn run() {
             &buf,
             s,
             &mut text,
-        );
-        s = run_decompressor(&mut dw, &mut dh, &mut db, &buf, s, &mut text);
+        )?;
+        s = run_decompressor(rt, &mut dw, &mut dh, &mut db, &buf, s, &mut text)?;
     }
+    Ok(())
 }

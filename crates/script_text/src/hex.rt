@@ -39,7 +39,7 @@ fn decode(word: &[u8], n: usize, bytes: &mut [u8]) -> Decoded
 
 // A word of hex, or - for no bytes.
 fn read(word: &[u8], bytes: &mut [u8]) -> Decoded {
-    if check::same(word, b"-") {
+    if word == b"-".as_slice() {
         return Decoded::Bytes(0);
     }
     let n = word.len() / 2;

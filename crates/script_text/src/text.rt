@@ -1,3 +1,5 @@
+use itoa::Buffer;
+
 // Each put appends to a text that is filled up to at, and answers how far it is filled then. What no longer fits is left out.
 pub fn put(text: &mut [u8], at: usize, b: u8) -> usize {
     if at < text.len() {
@@ -18,9 +20,8 @@ pub fn put_all(text: &mut [u8], at: usize, s: &[u8]) -> usize {
 }
 
 pub fn put_number(text: &mut [u8], at: usize, v: u64) -> usize {
-    let mut digits = [0u8; 20];
-    let n = io::decimal(v, &mut digits);
-    put_all(text, at, &digits[..n])
+    let mut digits = Buffer::new();
+    put_all(text, at, digits.format(v).as_bytes())
 }
 
 // The digit of the lower four bits.

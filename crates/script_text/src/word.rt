@@ -56,7 +56,7 @@ pub fn part<'a>(line: &'a [u8], w: Word) -> &'a [u8] {
 
 // Whether a word of a line is this one.
 pub fn is_word(line: &[u8], w: Word, name: &[u8]) -> bool {
-    check::same(part(line, w), name)
+    part(line, w) == name
 }
 
 // Which of some names, with one space between them, a word is: how many stand before it, or their number where it is none.
