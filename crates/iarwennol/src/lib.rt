@@ -1,30 +1,22 @@
-// The calls for C and Rust: those of `crtp` and of `endpoint`, under names of their own, with the answer in one number.
+// The calls of `crtp` and of `endpoint` under names of their own, with the answer in one number, for callers that have no enums.
 //
-// A slice crosses as a pointer and a count, a table as three of them; no two may overlap, which is the caller's duty. The number,
-// the link type and the length of an answer stand in one number of 64 bits (`specs/Packed.antt`). `include/iarwennol.h` and
-// `bindings/` declare these calls.
+// The number, the link type and the length of an answer stand in one number of 64 bits (`specs/Packed.antt`). `iarwennol_c` exports
+// these calls to C and Rust.
 #![tactic(auto)]
 
 mod pack;
 
 ghost use Rattle.std.specs.Prelude.{[]};
 ghost use Rattle.crtp.specs.Face as crtp;
-ghost use Rattle.crtp.specs.Face.{lent, compressor_of, decompressor_of, open_compressor_lent, open_decompressor_lent, send_of, request_of};
-ghost use Rattle.crtp.specs.Face.{receive_of, save_of, load_lent};
+ghost use Rattle.crtp.specs.Face.{lent, compressor_of, decompressor_of, open_compressor_lent, open_decompressor_lent, send_of};
+ghost use Rattle.crtp.specs.Face.{request_of, receive_of, save_of, load_lent};
 ghost use Rattle.endpoint.specs.Lent.{ends, endpoint_of, open_lent};
 ghost use Rattle.endpoint.specs.Calls.{wire_of, radio_of, report_of};
 ghost use Rattle.iarwennol.specs.Packed.{SentAs, GivenAs, AnsweredAs, SenderAs, ReceiverAs};
 
 use crate::pack::{pack_answer, pack_given, pack_sent};
 
-#[unsafe(no_mangle)]
-pub extern "C" fn iarwennol_open_compressor(
-    w: &mut [u32],
-    h: &mut [u16],
-    b: &mut [u8],
-    n: u32,
-    k: u32,
-) -> u64
+pub fn iarwennol_open_compressor(w: &mut [u32], h: &mut [u16], b: &mut [u8], n: u32, k: u32) -> u64
     ensures { SentAs (lent w.old h.old b.old)
         (lent w.new h.new b.new) result []
         (open_compressor_lent (lent w.old h.old b.old) n k) }
@@ -33,14 +25,7 @@ pub extern "C" fn iarwennol_open_compressor(
     pack_sent(o)
 }
 
-#[unsafe(no_mangle)]
-pub extern "C" fn iarwennol_send(
-    w: &mut [u32],
-    h: &mut [u16],
-    b: &mut [u8],
-    p: &[u8],
-    out: &mut [u8],
-) -> u64
+pub fn iarwennol_send(w: &mut [u32], h: &mut [u16], b: &mut [u8], p: &[u8], out: &mut [u8]) -> u64
     ensures { SentAs (lent w.old h.old b.old)
         (lent w.new h.new b.new) result out.new
         (send_of (compressor_of (lent w.old h.old b.old)) p.now out.old) }
@@ -49,8 +34,7 @@ pub extern "C" fn iarwennol_send(
     pack_sent(o)
 }
 
-#[unsafe(no_mangle)]
-pub extern "C" fn iarwennol_request(w: &mut [u32], h: &mut [u16], b: &mut [u8], s: &[u8]) -> u64
+pub fn iarwennol_request(w: &mut [u32], h: &mut [u16], b: &mut [u8], s: &[u8]) -> u64
     ensures { SentAs (lent w.old h.old b.old)
         (lent w.new h.new b.new) result []
         (request_of (compressor_of (lent w.old h.old b.old)) s.now) }
@@ -59,8 +43,7 @@ pub extern "C" fn iarwennol_request(w: &mut [u32], h: &mut [u16], b: &mut [u8], 
     pack_sent(o)
 }
 
-#[unsafe(no_mangle)]
-pub extern "C" fn iarwennol_open_decompressor(
+pub fn iarwennol_open_decompressor(
     w: &mut [u32],
     h: &mut [u16],
     b: &mut [u8],
@@ -75,8 +58,7 @@ pub extern "C" fn iarwennol_open_decompressor(
     pack_given(o)
 }
 
-#[unsafe(no_mangle)]
-pub extern "C" fn iarwennol_receive(
+pub fn iarwennol_receive(
     w: &mut [u32],
     h: &mut [u16],
     b: &mut [u8],
@@ -93,8 +75,7 @@ pub extern "C" fn iarwennol_receive(
     pack_given(o)
 }
 
-#[unsafe(no_mangle)]
-pub extern "C" fn iarwennol_report(w: &[u32], h: &[u16], b: &[u8], out: &mut [u8]) -> u64
+pub fn iarwennol_report(w: &[u32], h: &[u16], b: &[u8], out: &mut [u8]) -> u64
     ensures { GivenAs (lent w.now h.now b.now)
         (lent w.now h.now b.now) result out.new
         (crtp.report_of (decompressor_of (lent w.now h.now b.now)) out.old) }
@@ -103,8 +84,7 @@ pub extern "C" fn iarwennol_report(w: &[u32], h: &[u16], b: &[u8], out: &mut [u8
     pack_given(o)
 }
 
-#[unsafe(no_mangle)]
-pub extern "C" fn iarwennol_save(w: &[u32], h: &[u16], b: &[u8], out: &mut [u8]) -> u64
+pub fn iarwennol_save(w: &[u32], h: &[u16], b: &[u8], out: &mut [u8]) -> u64
     ensures { GivenAs (lent w.now h.now b.now)
         (lent w.now h.now b.now) result out.new
         (save_of (decompressor_of (lent w.now h.now b.now)) out.old) }
@@ -113,8 +93,7 @@ pub extern "C" fn iarwennol_save(w: &[u32], h: &[u16], b: &[u8], out: &mut [u8])
     pack_given(o)
 }
 
-#[unsafe(no_mangle)]
-pub extern "C" fn iarwennol_load(w: &mut [u32], h: &mut [u16], b: &mut [u8], s: &[u8]) -> u64
+pub fn iarwennol_load(w: &mut [u32], h: &mut [u16], b: &mut [u8], s: &[u8]) -> u64
     ensures { GivenAs (lent w.old h.old b.old)
         (lent w.new h.new b.new) result []
         (load_lent (lent w.old h.old b.old) s.now) }
@@ -123,8 +102,7 @@ pub extern "C" fn iarwennol_load(w: &mut [u32], h: &mut [u16], b: &mut [u8], s: 
     pack_given(o)
 }
 
-#[unsafe(no_mangle)]
-pub extern "C" fn iarwennol_endpoint_open(
+pub fn iarwennol_endpoint_open(
     cw: &mut [u32],
     ch: &mut [u16],
     cb: &mut [u8],
@@ -135,20 +113,15 @@ pub extern "C" fn iarwennol_endpoint_open(
     n: u32,
     k: u32,
 ) -> u64
-    ensures { AnsweredAs (ends (lent cw.old ch.old cb.old) (lent dw.old dh.old db.old)
-        t.old) (ends (lent cw.new ch.new cb.new) (lent dw.new dh.new
-        db.new)
-        t.new) result []
-        (open_lent (ends (lent cw.old ch.old cb.old) (lent dw.old dh.old
-        db.old)
-        t.old) n k) }
+    ensures { AnsweredAs (ends (lent cw.old ch.old cb.old) (lent dw.old dh.old db.old) t.old)
+        (ends (lent cw.new ch.new cb.new) (lent dw.new dh.new db.new) t.new) result []
+        (open_lent (ends (lent cw.old ch.old cb.old) (lent dw.old dh.old db.old) t.old) n k) }
 {
     let o = endpoint::open(cw, ch, cb, dw, dh, db, t, n, k);
     pack_answer(o)
 }
 
-#[unsafe(no_mangle)]
-pub extern "C" fn iarwennol_endpoint_wire(
+pub fn iarwennol_endpoint_wire(
     w: &mut [u32],
     h: &mut [u16],
     b: &mut [u8],
@@ -165,8 +138,7 @@ pub extern "C" fn iarwennol_endpoint_wire(
     pack_answer(o)
 }
 
-#[unsafe(no_mangle)]
-pub extern "C" fn iarwennol_endpoint_radio(
+pub fn iarwennol_endpoint_radio(
     cw: &mut [u32],
     ch: &mut [u16],
     cb: &mut [u8],
@@ -178,19 +150,15 @@ pub extern "C" fn iarwennol_endpoint_radio(
     s: &[u8],
     out: &mut [u8],
 ) -> u64
-    ensures { AnsweredAs (ends (lent cw.old ch.old cb.old) (lent dw.old dh.old db.old)
-        t.old) (ends (lent cw.new ch.new cb.new) (lent dw.new dh.new
-        db.new)
-        t.new) result out.new
-        (radio_of (endpoint_of (ends (lent cw.old ch.old cb.old) (lent dw.old dh.entry.now db.old)
-        t.old)) kind s.now out.old) }
+    ensures { AnsweredAs (ends (lent cw.old ch.old cb.old) (lent dw.old dh.old db.old) t.old)
+        (ends (lent cw.new ch.new cb.new) (lent dw.new dh.new db.new) t.new) result out.new
+        (radio_of (endpoint_of (ends (lent cw.old ch.old cb.old) (lent dw.old dh.old db.old) t.old)) kind s.now out.old) }
 {
     let o = endpoint::from_radio(cw, ch, cb, dw, dh, db, t, kind, s, out);
     pack_answer(o)
 }
 
-#[unsafe(no_mangle)]
-pub extern "C" fn iarwennol_endpoint_report(
+pub fn iarwennol_endpoint_report(
     w: &[u32],
     h: &[u16],
     b: &[u8],
