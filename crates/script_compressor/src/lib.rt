@@ -8,5 +8,5 @@
 
 pub mod answer;
 pub mod call;
-pub mod fields;
+pub mod field_names;
 pub mod line;

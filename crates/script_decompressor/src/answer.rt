@@ -1,5 +1,5 @@
 use crate::call::Call;
-use crate::fields::{FIELDS, field};
+use crate::field_names::{FIELDS, field};
 use crtp::DecompressorOutcome;
 use script_shared::field::load;
 use script_shared::refusal::refusal_number;

@@ -1,4 +1,4 @@
-use crate::fields::named_field;
+use crate::field_names::named_field;
 use script_shared::field::{Field, takes};
 use script_text::number::{Number, Pair, last_number, last_pair};
 use script_text::packet::{Arrival, Room, arrival_at, last_room};
