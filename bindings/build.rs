@@ -10,7 +10,7 @@ fn main() {
     let library = folder.join("libiarwennol.a");
     if !library.is_file() {
         println!(
-            "cargo::error=no {}: build it with `rt staticlib iarwennol`, or name its folder in IARWENNOL_LIB",
+            "cargo::error=no {}: make it with `tests/staticlib`, or name its folder in IARWENNOL_LIB",
             library.display()
         );
         return;

@@ -1,4 +1,4 @@
-/* Iarwennol for C and C++: a proved IPv4/UDP/RTP header compressor. Link libiarwennol.a (`rt staticlib iarwennol`).
+/* Iarwennol for C and C++: a proved IPv4/UDP/RTP header compressor. Link libiarwennol.a (`tests/staticlib`).
  *
  * Each end has its table in a struct of the caller's, which points nowhere: it may be copied, and all zero it is not open. Any
  * bytes, tables and settings may be handed in; every call ends. What two pointers of one call lead to must not overlap, and a

@@ -1,3 +1,5 @@
+-- Iarwennol. The theorems of an endpoint's totals and of two endpoints that face each other, as they were asked for.
+-- Proved by those of `endpoint`.
 use Prim.Native.Nat.{ℕ, ◌+◌, ◌≤◌}
 use mathlib.Core.Path.{◌≡◌}
 use mathlib.Core.Bool.{Bool, false, cond}

@@ -1,3 +1,5 @@
+-- Iarwennol. The laws of arrivals that the UDP checksum judges, and what their words say, as they were asked for.
+-- Proved by those of `decompressor`.
 use Prim.Native.Nat.{ℕ, ◌+◌, ◌-◌, ◌≤◌, ◌<◌}
 use mathlib.Core.Path.{◌≡◌, refl}
 use mathlib.Core.Bool.{true, false}

@@ -1,3 +1,5 @@
+-- Iarwennol. The theorems over lists of calls with saves and loads, and what their words say, as they were asked for.
+-- Proved by those of `crtp`.
 use Prim.Native.Nat.{ℕ, suc, ◌≤◌, ◌<◌}
 use mathlib.Core.Path.{◌≡◌, refl}
 use mathlib.Core.Bool.{Bool, true, false, cond, ◌||◌}

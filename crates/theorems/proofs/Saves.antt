@@ -1,3 +1,5 @@
+-- Iarwennol. The laws of saved tables, as they were asked for.
+-- Proved by those of `saves`.
 use Prim.Native.Nat.{ℕ, ◌≤◌, ◌<◌}
 use mathlib.Core.Path.{◌≡◌, ap}
 use mathlib.Core.Bool.{true}
@@ -45,8 +47,8 @@ module _ (t : Table) (s : List ℕ) (a : AllBytes s) (e : (load_of t s).number �
   sound-asked : sound_of (load_of t s).table ≡ true
   sound-asked = sound_of-made (load_of t s).table (load_read t s a e).fits.sound
 
-  same_asked : saved_bytes (load_of t s).table ≡ s
-  same_asked = (load_read t s a e).same
+  same-asked : saved_bytes (load_of t s).table ≡ s
+  same-asked = (load_read t s a e).same
 
 -- the bytes alone decide, and what is refused leaves the table
 module _ (t u : Table) (s : List ℕ) where

@@ -1,3 +1,5 @@
+-- Iarwennol. The law of the ones' complement sum, and what its words say, as it was asked for.
+-- Proved by that of `octets`.
 use Prim.Native.Nat.{ℕ, ◌+◌, ◌/◌, ◌%◌, ◌≤◌, ◌<◌}
 use mathlib.Core.Path.{◌≡◌, refl}
 use mathlib.Core.List.{List, [], ◌∷◌}

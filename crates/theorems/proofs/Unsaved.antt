@@ -1,3 +1,5 @@
+-- Iarwennol. The theorem over lists of calls without saves and loads, and what its words say, as it was asked for.
+-- Proved by that of `crtp`.
 use Prim.Native.Nat.{ℕ}
 use mathlib.Core.Path.{◌≡◌}
 use mathlib.Core.Bool.{true, false}

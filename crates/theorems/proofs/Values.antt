@@ -1,3 +1,5 @@
+-- Iarwennol. The laws of a CU with and without F, as they were asked for.
+-- Proved by those of `compressor` and of `context`.
 use Prim.Native.Nat.{ℕ, ◌^◌, ◌<◌}
 use mathlib.Core.Path.{◌≡◌}
 use mathlib.Core.Bool.{true, false, cond}
