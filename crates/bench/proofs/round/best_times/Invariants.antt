@@ -1,8 +1,5 @@
-use Rattle.std.proofs.Common.{◌-◌, ◌≤◌}
+use Rattle.std.proofs.Common.{◌-◌}
 use Rattle.bench.proofs.round.best_times.Given as goal
-
-abbrev pub invariant-loop-i : goal.invariant-loop-i
-invariant-loop-i g l = l.i ≤ 9
 
 abbrev pub decreases-loop-i : goal.decreases-loop-i
 decreases-loop-i g l = 9 - l.i
