@@ -24,7 +24,7 @@ fn put_empty(w: &mut [u32], h: &mut [u16], b: &mut [u8], s: Settings)
 
 // Opens a table. The settings alone are judged, never what the slices hold.
 pub fn open(w: &mut [u32], h: &mut [u16], b: &mut [u8], n: u32, k: u32) -> Outcome
-    ensures { Gives (lent w.old h.old b.old) (lent w.new h.new b.exit.now)
+    ensures { Gives (lent w.old h.old b.old) (lent w.new h.new b.new)
         result [] (open_lent (lent w.old h.old b.old) n k) }
 {
     let sized = (w.len() == Layout::WORDS)

@@ -42,7 +42,7 @@ pub fn open(
     n: u32,
     k: u32,
 ) -> Outcome
-    ensures { Gives (ends (lent cw.old ch.old cb.old) (lent dw.old dh.entry.now db.old)
+    ensures { Gives (ends (lent cw.old ch.old cb.old) (lent dw.old dh.old db.old)
         t.old)
         (ends (lent cw.new ch.new cb.new) (lent dw.new dh.new db.new)
         t.new) result []
@@ -109,11 +109,11 @@ pub fn from_radio(
     s: &[u8],
     out: &mut [u8],
 ) -> Outcome
-    ensures { Gives (ends (lent cw.old ch.old cb.old) (lent dw.old dh.entry.now db.old)
+    ensures { Gives (ends (lent cw.old ch.old cb.old) (lent dw.old dh.old db.old)
         t.old)
         (ends (lent cw.new ch.new cb.new) (lent dw.new dh.new db.new)
         t.new) result out.new
-        (radio_of (endpoint_of (ends (lent cw.old ch.old cb.old) (lent dw.old dh.entry.now db.old)
+        (radio_of (endpoint_of (ends (lent cw.old ch.old cb.old) (lent dw.old dh.old db.old)
         t.old)) kind
         s.now out.old) }
 {
@@ -126,7 +126,7 @@ pub fn from_radio(
 // What is to be sent to the other end, with type CONTEXT_STATE, of the contexts that are broken here; of none, nothing. It is the
 // decompressor's, whose slices are lent.
 pub fn report(w: &[u32], h: &[u16], b: &[u8], t: &mut [u32], out: &mut [u8]) -> Outcome
-    ensures { ReceiverGives (lent w.now h.now b.now) (lent w.now h.entry.now b.now)
+    ensures { ReceiverGives (lent w.now h.now b.now) (lent w.now h.now b.now)
         t.old t.new result out.new (λ e. report_of e out.old) }
 {
     routes::report(w, h, b, t, out)

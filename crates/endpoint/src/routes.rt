@@ -44,7 +44,7 @@ pub fn wire(
 
 // A request goes to the compressor; it gives nothing out.
 pub fn ask(w: &mut [u32], h: &mut [u16], b: &mut [u8], t: &mut [u32], s: &[u8]) -> Outcome
-    ensures { Asks (lent w.old h.old b.old) (lent w.new h.new b.exit.now)
+    ensures { Asks (lent w.old h.old b.old) (lent w.new h.new b.new)
         t.old t.new result s.now }
 {
     if t.len() != Totals::COUNT {
@@ -82,7 +82,7 @@ pub fn rebuild(
 
 // A report is the decompressor's.
 pub fn report(w: &[u32], h: &[u16], b: &[u8], t: &mut [u32], out: &mut [u8]) -> Outcome
-    ensures { ReceiverGives (lent w.now h.now b.now) (lent w.now h.entry.now b.now)
+    ensures { ReceiverGives (lent w.now h.now b.now) (lent w.now h.now b.now)
         t.old t.new result out.new (λ e. report_of e out.old) }
 {
     if t.len() != Totals::COUNT {
