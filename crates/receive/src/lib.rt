@@ -1,8 +1,8 @@
 // An arrival: what the decompressor makes of a link packet.
 //
-// The table's layout is `decompressor_table`'s, its soundness `decompressor_walk`'s, and the definition `receive_of`, which says all
-// that an arrival does, is `decompressor`'s. What becomes of one context is decided in `context` and `decompress`, what bytes mean
-// in `headers` and `links`; here a link packet finds its context, which is read out and stored back, and the rebuilt packet is
+// The table's layout is `decompressor_table`'s, its soundness `decompressor_walk`'s, and the definition `receive_of`, which says
+// all that an arrival does, is `decompressor`'s. What becomes of one context is decided in `context` and `decompress`, what bytes
+// mean in `headers` and `links`; here a link packet finds its context, which is read out and stored back, and the rebuilt packet is
 // judged and finds its output.
 // Read `receive` first, then `compressed`, `settle` and `judge`. `steady` is a short way for what most arrivals are
 // (`decompressor_steady`): it is proved to do what they do.

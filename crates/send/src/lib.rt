@@ -1,8 +1,8 @@
 // A send: what the compressor makes of a packet.
 //
 // The table's layout is `compressor_table`'s, its soundness `compressor_walk`'s, and the lookup of a flow's context
-// `compressor_places`'s; the definition `send_of`, which says all that a send does, is `compressor`'s. What goes out on a context is
-// decided in `outgoing`; here a packet finds its context, which is read out and stored back, and the result finds its output.
+// `compressor_places`'s; the definition `send_of`, which says all that a send does, is `compressor`'s. What goes out on a context
+// is decided in `outgoing`; here a packet finds its context, which is read out and stored back, and the result finds its output.
 // Read `send` first, then `send_on`: a steady packet goes a short way (`compressor_steady`), which is proved to do what the rules
 // do.
 #![tactic(auto)]
