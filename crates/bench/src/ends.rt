@@ -22,9 +22,9 @@ pub struct Ends {
 
 fn later(t: Times, u: Times) -> Times {
     Times {
-        send: std::num::wrapping_add_u64(t.send, u.send),
-        receive: std::num::wrapping_add_u64(t.receive, u.receive),
-        copy: std::num::wrapping_add_u64(t.copy, u.copy),
+        send: t.send.wrapping_add(u.send),
+        receive: t.receive.wrapping_add(u.receive),
+        copy: t.copy.wrapping_add(u.copy),
     }
 }
 
@@ -136,10 +136,8 @@ fn batches(
             copy: 0,
         },
     };
-    let mut i = 0u32;
-    while i < 500 {
+    for i in 0..500 {
         s = batch(rt, cw, ch, cb, dw, dh, db, streams, i, s);
-        i += 1;
     }
     s
 }
@@ -152,8 +150,8 @@ pub fn round(rt: &impl CpuClock, streams: u32, k: u32) -> Ends {
     let mut dw = [0u32; DecompressorLayout::WORDS];
     let mut dh = [0u16; DecompressorLayout::SHORTS];
     let mut db = [0u8; DecompressorLayout::BYTES];
-    crtp::open_compressor(&mut cw, &mut ch, &mut cb, 2, k);
-    crtp::open_decompressor(&mut dw, &mut dh, &mut db, 2, k);
+    let _ = crtp::open_compressor(&mut cw, &mut ch, &mut cb, 2, k);
+    let _ = crtp::open_decompressor(&mut dw, &mut dh, &mut db, 2, k);
     batches(
         rt, &mut cw, &mut ch, &mut cb, &mut dw, &mut dh, &mut db, streams,
     )

@@ -7,22 +7,18 @@ use std::time::CpuClock;
 
 fn best_times(rt: &impl CpuClock, streams: u32, k: u32, first: Times) -> Times {
     let mut t = first;
-    let mut i = 1u32;
-    while i < 9 {
+    for _ in 1..9 {
         let r = ends::round(rt, streams, k);
         t = ends::best(t, r.times);
-        i += 1;
     }
     t
 }
 
 fn best_ways(rt: &impl CpuClock, streams: u32, k: u32, first: Ways) -> Ways {
     let mut w = first;
-    let mut i = 1u32;
-    while i < 9 {
+    for _ in 1..9 {
         let r = through::round(rt, streams, k);
         w = through::best(w, r.ways);
-        i += 1;
     }
     w
 }

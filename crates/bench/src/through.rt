@@ -22,8 +22,8 @@ pub struct Through {
 
 fn later(a: Ways, b: Ways) -> Ways {
     Ways {
-        wire: std::num::wrapping_add_u64(a.wire, b.wire),
-        radio: std::num::wrapping_add_u64(a.radio, b.radio),
+        wire: a.wire.wrapping_add(b.wire),
+        radio: a.radio.wrapping_add(b.radio),
     }
 }
 
@@ -116,10 +116,8 @@ fn batches(
         tally: nothing(),
         ways: Ways { wire: 0, radio: 0 },
     };
-    let mut i = 0u32;
-    while i < 500 {
+    for i in 0..500 {
         s = batch(rt, cw, ch, cb, dw, dh, db, t, streams, i, s);
-        i += 1;
     }
     s
 }
@@ -133,7 +131,7 @@ pub fn round(rt: &impl CpuClock, streams: u32, k: u32) -> Through {
     let mut dh = [0u16; DecompressorLayout::SHORTS];
     let mut db = [0u8; DecompressorLayout::BYTES];
     let mut t = [0u32; Totals::COUNT];
-    endpoint::open(
+    let _ = endpoint::open(
         &mut cw, &mut ch, &mut cb, &mut dw, &mut dh, &mut db, &mut t, 2, k,
     );
     batches(

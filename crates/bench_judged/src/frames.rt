@@ -4,7 +4,7 @@ ghost use Rattle.packet.specs.Ranges.{Narrow};
 use headers_write::checksum::ip_checksum;
 use headers_write::udp::udp_checksum;
 use headers_write::write::put_header;
-use octets::put::put16;
+use octets::put::put;
 use packet::csrc::Csrc;
 use packet::header::{Flow, Header, Ip, Rtp};
 
@@ -51,7 +51,7 @@ fn header(steps: u16, checksum: u16) -> Header
 pub fn put_full(out: &mut [u8], size: u16, carried: bool)
     requires { 40 ≤ length out.old }
 {
-    let h = header(0, packet::sent::or_kept16(carried, 0xFFFF, 0));
+    let h = header(0, if carried { 0xFFFF } else { 0 });
     let checksum = ip_checksum(h, size);
     put_header(out, 0, h, 0x4000, 0, checksum);
 }
@@ -70,8 +70,8 @@ pub fn put_compressed(out: &mut [u8], size: u16, carried: bool)
     let payload = [0u8; 1460];
     let end = size as usize - 40;
     let checksum = udp_checksum(header(2, 0), size, &payload[0..end]);
-    let at = put16(out, 0, 2);
+    let at = put(out, 0, 2u16);
     if carried {
-        put16(out, at, checksum);
+        put(out, at, checksum);
     }
 }

@@ -19,16 +19,13 @@ fn make_ready(w: &mut [u32], h: &mut [u16], b: &mut [u8], size: u16, carried: bo
     let mut link = [0u8; 1500];
     let mut out = [0u8; 1500];
     put_full(&mut link, size, carried);
-    crtp::open_decompressor(w, h, b, 2, 64);
+    let _ = crtp::open_decompressor(w, h, b, 2, 64);
     let end = size as usize;
-    crtp::receive(w, h, b, 1, &link[0..end], &mut out);
+    let _ = crtp::receive(w, h, b, 1, &link[0..end], &mut out);
 }
 
 fn is_whole(outcome: DecompressorOutcome, size: usize) -> bool {
-    match outcome {
-        DecompressorOutcome::Accepted(length) => length == size,
-        DecompressorOutcome::Refused(_) => false,
-    }
+    outcome.is_ok_and(|length| length == size)
 }
 
 // An arrival at a copy of a table: whether it was accepted whole.
@@ -41,11 +38,9 @@ fn receive_once(mut w: Words, mut h: Shorts, mut b: Bytes, link: &[u8], out: &mu
 // The same arrival, so many times at the same table: how often it was accepted whole.
 fn receive_again(w: Words, h: Shorts, b: Bytes, link: &[u8], out: &mut [u8], count: u32) -> u32 {
     let mut whole = 0u32;
-    let mut i = 0u32;
-    while i < count {
+    for _ in 0..count {
         let accepted = receive_once(w, h, b, link, out);
-        whole = std::num::wrapping_add_u32(whole, accepted as u32);
-        i += 1;
+        whole = whole.wrapping_add(accepted as u32);
     }
     whole
 }

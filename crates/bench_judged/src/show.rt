@@ -9,11 +9,9 @@ fn best_of_nine(rt: &impl CpuClock, size: u16, carried: bool, first: Round) -> u
     requires { (40 ≤ size) × (size ≤ 1500) }
 {
     let mut time = first.time;
-    let mut i = 1u32;
-    while i < 9 {
+    for _ in 1..9 {
         let r = run_round(rt, size, carried, 32000);
         time = least(time, r.time);
-        i += 1;
     }
     time
 }

@@ -55,10 +55,8 @@ fn put_payload(out: &mut [u8], j: u32)
     requires { length out.old ≡ 200 }
     ensures { length out.new ≡ 200 }
 {
-    let mut i = 0u32;
-    while i < 160 {
+    for i in 0..160 {
         out[40 + i as usize] = ((i + j % 64) % 256) as u8;
-        i += 1;
     }
 }
 

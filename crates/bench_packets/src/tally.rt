@@ -24,33 +24,29 @@ pub fn nothing() -> Tally {
 
 fn sum_of(s: &[u8]) -> u32 {
     let mut sum = 0u32;
-    let mut i = 0;
-    while i < s.len() {
-        sum = std::num::wrapping_add_u32(sum, wide(s[i]));
-        i += 1;
+    for b in s {
+        sum = sum.wrapping_add(wide(*b));
     }
     sum
-}
-
-fn one_if(b: bool) -> u32 {
-    if b { 1 } else { 0 }
 }
 
 // One link packet more.
 fn with_link(t: Tally, kind: u8, link: &[u8]) -> Tally {
     let mut u = t;
-    u.full = std::num::wrapping_add_u32(t.full, one_if(kind == 1));
-    u.udp = std::num::wrapping_add_u32(t.udp, one_if(kind == 2));
-    u.rtp = std::num::wrapping_add_u32(t.rtp, one_if(kind == 3));
+    u.full = t.full.wrapping_add(u32::from(kind == 1));
+    u.udp = t.udp.wrapping_add(u32::from(kind == 2));
+    u.rtp = t.rtp.wrapping_add(u32::from(kind == 3));
     let length = (link.len() % 65536) as u32;
-    u.header = std::num::wrapping_add_u32(t.header, std::num::wrapping_sub_u32(length, 160));
-    u.sum = std::num::wrapping_add_u32(t.sum, sum_of(link));
+    u.header = t.header.wrapping_add(length.wrapping_sub(160));
+    u.sum = t.sum.wrapping_add(sum_of(link));
     u
 }
 
 fn with_rebuilt(t: Tally, packet: &[u8], rebuilt: &[u8]) -> Tally {
     let mut u = t;
-    u.exact = std::num::wrapping_add_u32(t.exact, one_if(check::same(packet, rebuilt)));
+    u.exact = t
+        .exact
+        .wrapping_add(u32::from(check::same(packet, rebuilt)));
     u
 }
 
@@ -78,14 +74,12 @@ pub fn count_batch(
         return t;
     }
     let mut u = t;
-    let mut i = 0;
-    while i < 64 {
+    for i in 0..64 {
         let at = 200 * i;
         let end = at + 200;
         let past = at + within(lengths[i]);
         u = with_link(u, kinds[i], &links[at..past]);
         u = with_rebuilt(u, &packets[at..end], &rebuilt[at..end]);
-        i += 1;
     }
     u
 }

@@ -23,14 +23,12 @@ pub fn make(streams: u32, batch: u32, packets: &mut [u8]) {
     if packets.len() != 12800 {
         return;
     }
-    let mut i = 0u32;
-    while i < 64 {
+    for i in 0..64 {
         let at = 200 * (i as usize);
         let end = at + 200;
         let j = stream_of(streams, i);
         let n = number_of(streams, batch, i);
         put_packet(&mut packets[at..end], j, n);
-        i += 1;
     }
 }
 
@@ -42,10 +40,8 @@ pub struct Given {
 }
 
 pub fn given_by(o: crtp::CompressorOutcome) -> Given {
-    match o {
-        crtp::CompressorOutcome::Accepted(k, n) => Given { kind: k, length: n },
-        crtp::CompressorOutcome::Refused(_) => Given { kind: 0, length: 0 },
-    }
+    let (kind, length) = o.unwrap_or((0, 0));
+    Given { kind, length }
 }
 
 fn send_one(w: &mut [u32], h: &mut [u16], b: &mut [u8], p: &[u8], out: &mut [u8]) -> Given {
@@ -75,14 +71,12 @@ pub fn send_all(
     if lengths.len() != 64 {
         return;
     }
-    let mut i = 0;
-    while i < 64 {
+    for i in 0..64 {
         let at = 200 * i;
         let end = at + 200;
         let g = send_one(w, h, b, &packets[at..end], &mut links[at..end]);
         kinds[i] = g.kind;
         lengths[i] = g.length;
-        i += 1;
     }
 }
 
@@ -119,14 +113,12 @@ pub fn receive_all(
     if lengths.len() != 64 {
         return;
     }
-    let mut i = 0;
-    while i < 64 {
+    for i in 0..64 {
         let at = 200 * i;
         let end = at + 200;
         let past = at + within(lengths[i]);
         let kind = wide(kinds[i]);
-        crtp::receive(w, h, b, kind, &links[at..past], &mut rebuilt[at..end]);
-        i += 1;
+        let _ = crtp::receive(w, h, b, kind, &links[at..past], &mut rebuilt[at..end]);
     }
 }
 
@@ -138,11 +130,9 @@ pub fn copy_all(packets: &[u8], copies: &mut [u8]) {
     if copies.len() != 12800 {
         return;
     }
-    let mut i = 0;
-    while i < 64 {
+    for i in 0..64 {
         let at = 200 * i;
         let end = at + 200;
         octets::put::put_all(&mut copies[at..end], 0, &packets[at..end]);
-        i += 1;
     }
 }

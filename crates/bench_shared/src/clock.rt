@@ -16,5 +16,5 @@ pub fn now(rt: &impl CpuClock) -> u64 {
 
 // Microseconds from one reading to a later one.
 pub fn passed(from: u64, to: u64) -> u64 {
-    std::num::wrapping_sub_u64(to, from)
+    to.wrapping_sub(from)
 }

@@ -7,10 +7,8 @@ use std::time::CpuClock;
 // The bytes that are summed.
 fn fill() -> [u8; 1564] {
     let mut bytes = [0u8; 1564];
-    let mut i = 0u32;
-    while i < 1564 {
+    for i in 0..1564u32 {
         bytes[i as usize] = ((167 * i + 13) % 256) as u8;
-        i += 1;
     }
     bytes
 }
@@ -20,11 +18,9 @@ fn at_end(bytes: &[u8], size: usize, count: u32) -> u16
     requires { (length bytes.now ≡ 1564) × (size ≤ 1500) }
 {
     let mut sum = 0u16;
-    let mut i = 0u32;
-    while i < count {
+    for i in 0..count {
         let at = (i % 64) as usize;
         sum = octets::sum::sum(sum, &bytes[at..at + size]);
-        i += 1;
     }
     sum
 }
@@ -34,11 +30,9 @@ fn after_each(bytes: &[u8], size: usize, count: u32) -> u16
     requires { (length bytes.now ≡ 1564) × (size ≤ 1500) }
 {
     let mut sum = 0u16;
-    let mut i = 0u32;
-    while i < count {
+    for i in 0..count {
         let at = (i % 64) as usize;
         sum = former::sum(sum, &bytes[at..at + size]);
-        i += 1;
     }
     sum
 }

@@ -26,10 +26,8 @@ fn best_of_nine(rt: &impl CpuClock, size: usize, count: u32, first: Round) -> Ro
     requires { size ≤ 1500 }
 {
     let mut r = first;
-    let mut i = 1u32;
-    while i < 9 {
+    for _ in 1..9 {
         r = best(r, run_round(rt, size, count));
-        i += 1;
     }
     r
 }

@@ -1,13 +1,13 @@
 use bench_packets::turns::{Given, wide, within};
 use bench_shared::clock::{now, passed};
-use endpoint::Outcome;
+use endpoint::{Done, Outcome};
 use std::time::CpuClock;
 
 // The packets of a batch through one endpoint: from the wire, and what it sent from the radio.
 
 fn given_by(o: Outcome) -> Given {
     match o {
-        Outcome::Sent(k, n) => Given { kind: k, length: n },
+        Ok(Done::Sent(k, n)) => Given { kind: k, length: n },
         _ => Given { kind: 0, length: 0 },
     }
 }
@@ -47,14 +47,12 @@ fn wire_all(
     if lengths.len() != 64 {
         return;
     }
-    let mut i = 0;
-    while i < 64 {
+    for i in 0..64 {
         let at = 200 * i;
         let end = at + 200;
         let g = wire_one(w, h, b, t, &packets[at..end], &mut links[at..end]);
         kinds[i] = g.kind;
         lengths[i] = g.length;
-        i += 1;
     }
 }
 
@@ -83,15 +81,13 @@ fn radio_all(
     if lengths.len() != 64 {
         return;
     }
-    let mut i = 0;
-    while i < 64 {
+    for i in 0..64 {
         let at = 200 * i;
         let end = at + 200;
         let past = at + within(lengths[i]);
         let kind = wide(kinds[i]);
         let link = &links[at..past];
-        endpoint::from_radio(cw, ch, cb, dw, dh, db, t, kind, link, &mut rebuilt[at..end]);
-        i += 1;
+        let _ = endpoint::from_radio(cw, ch, cb, dw, dh, db, t, kind, link, &mut rebuilt[at..end]);
     }
 }
 

@@ -1,12 +1,14 @@
 -- Iarwennol. Laws of the cursor's answers: a law for each size and row of a code, once over the modulus m. Assume nothing.
 -- Used by the proofs of the cursor (by tests on the bytes) and by the round trips (by what is left from a place on).
-use Rattle.std.specs.Prelude.{◌≡◌, ℕ, ◌+◌, ◌-◌, ◌%◌, ◌<◌, ◌≤◌, Bool, true, false, not, List, length, nat_lt, refl}
-use Rattle.std.proofs.Common.{sym, ◌∙◌, arith}
+use Rattle.std.specs.Prelude.{◌≡◌, ℕ, ◌+◌, ◌-◌, ◌%◌, ◌<◌, ◌≤◌, Bool, true, false, cond, not, List, length, nat_lt, Err, refl}
+use Rattle.std.proofs.Common.{sym, ap, ◌∙◌, arith}
 use borrow.Author.Tests.{lt-ltb, le-ltb, lt-leb, le-leb, ltb-true, ltb-false, leb-true, leb-false, not-true, not-false}
 use Rattle.std.proofs.Math.ListN.{get_or-eq_default}
 use Rattle.codes.specs.Code.{rows}
 use Rattle.codes.specs.CodeLaws.{among_in, among_below, among-above}
-use Rattle.codes.specs.Reading.{accepted, refused, has, byte_at, word_at, triple_at}
+use Rattle.codes.specs.Reading.{Reading, accepted, refused, said, has, byte_at, word_at, triple_at, read_byte}
+use Rattle.codes.specs.declared.cursor.Unreadable.{Unreadable}
+use Rattle.codes.specs.declared.cursor.Unreadable.TheVariants.{Cut, UnusedCode}
 use Rattle.codes.specs.Reading.{field_at, value_in, code_at, read_by}
 
 ---- has: what a test of it tells
@@ -26,6 +28,36 @@ module _ (s : List ℕ) (at n v : ℕ) where
 
   pub field_at-cut : length s < at + n → field_at s at n v ≡ refused 4
   field_at-cut h = rw (lt-leb (at + n) (length s) h)
+
+---- read_byte: what an answer tells of the bytes
+
+-- an accepted reading has the number 0, a refused one its own
+accepted-number : (v past n : ℕ) → accepted v past ≡ refused n → n ≡ 0
+accepted-number v past n e = sym (ap (λ (r : Reading). r.number) e)
+
+refused-number : (m n : ℕ) → refused m ≡ refused n → m ≡ n
+refused-number m n e = ap (λ (r : Reading). r.number) e
+
+module _ (s : List ℕ) (at : ℕ) where
+  pub byte-there : (v past : ℕ) → accepted v past ≡ read_byte s at → (at + 1 ≤ length s) × (v ≡ byte_at s at) × (past ≡ at + 1)
+  unfolding read_byte
+  byte-there v past e = by (has s at 1) refl e
+    where
+      by : (b : Bool) → has s at 1 ≡ b → accepted v past ≡ cond b (accepted (byte_at s at) (at + 1)) (refused 4)
+          → (at + 1 ≤ length s) × (v ≡ byte_at s at) × (past ≡ at + 1)
+      by true h e = (leb-true (at + 1) (length s) h, ap (λ (r : Reading). r.value) e, ap (λ (r : Reading). r.at) e)
+      by false h e = absurd (omega (arith, accepted-number v past 4 e))
+
+  pub byte-cut : (e : Unreadable) → said (λ (v : ℕ). v) (Err e) ≡ read_byte s at → (length s ≤ at) × (e ≡ Cut)
+  unfolding read_byte
+  byte-cut e h = by (has s at 1) refl e h
+    where
+      by : (b : Bool) → has s at 1 ≡ b → (e : Unreadable)
+          → said (λ (v : ℕ). v) (Err e) ≡ cond b (accepted (byte_at s at) (at + 1)) (refused 4) → (length s ≤ at) × (e ≡ Cut)
+      by false h Cut e = (omega (arith, leb-false (at + 1) (length s) h), refl)
+      by true h Cut e = absurd (omega (arith, accepted-number (byte_at s at) (at + 1) 4 (sym e)))
+      by true h UnusedCode e = absurd (omega (arith, accepted-number (byte_at s at) (at + 1) 7 (sym e)))
+      by false h UnusedCode e = absurd (omega (arith, refused-number 7 4 e))
 
 ---- value_in: which row has the code c
 

@@ -1,9 +1,9 @@
 -- Iarwennol. The table of difference codes (rules 4.1 to 4.4), once over the width of the field.
 -- Both directions follow the one table `rows`: code_of writes by it, read_delta (Reading) reads by it.
-use Rattle.std.specs.Prelude.{ℕ, ◌+◌, ◌-◌, ◌^◌, Bool, cond, ◌&&◌, List, [], ◌∷◌, nat_le, nat_lt}
+use Rattle.std.specs.Prelude.{ℕ, ◌+◌, ◌-◌, ◌^◌, Bool, cond, ◌&&◌, List, [], ◌∷◌, nat_le, nat_lt, Option, Some, None}
 use Rattle.codes.specs.Bytes.{big_endian}
 use Rattle.codes.specs.declared.code.Code.{Code}
-use Rattle.codes.specs.declared.code.Code.TheVariants.{One, Two, Three, NoCode}
+use Rattle.codes.specs.declared.code.Code.TheVariants.{One, Two, Three}
 
 -- a row: its lowest difference and how many it has; the code of the lowest, as one number, and the bytes of each code
 pub record Row : Type 0 where
@@ -39,9 +39,9 @@ code_in (r ∷ rs) d = cond (among r.first r.count d) (big_endian r.size (r.code
 unfoldable pub code_of : (w d : ℕ) → List ℕ
 code_of w d = code_in (rows (2 ^ w)) d
 
--- the values of each answer of the writer: the code's bytes
-abbrev pub bytes_of : Code → List ℕ
-bytes_of (One a) = a ∷ []
-bytes_of (Two a b) = a ∷ b ∷ []
-bytes_of (Three a b c) = a ∷ b ∷ c ∷ []
-bytes_of NoCode = []
+-- the values of each answer of the writer: the code's bytes, none where there is no code
+abbrev pub bytes_of : Option Code → List ℕ
+bytes_of (Some (One a)) = a ∷ []
+bytes_of (Some (Two a b)) = a ∷ b ∷ []
+bytes_of (Some (Three a b c)) = a ∷ b ∷ c ∷ []
+bytes_of None = []

@@ -6,3 +6,4 @@ pub mod BytesLaws
 pub mod Code
 pub mod CodeLaws
 pub mod Reading
+pub mod ReadingLaws

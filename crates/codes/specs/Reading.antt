@@ -1,21 +1,14 @@
 -- Iarwennol. What stands at a place of a packet, and what the cursor answers (rules 3.4, 4.4).
 -- Used by every reader of a link packet.
 use Rattle.std.specs.Prelude.{ℕ, ◌+◌, ◌-◌, ◌*◌, ◌%◌, ◌^◌, Bool, cond, ◌&&◌, List, [], ◌∷◌, length, ◌==◌, nat_le, nat_lt}
-use Rattle.std.specs.Prelude.{slice_index}
+use Rattle.std.specs.Prelude.{slice_index, Result, Ok, Err}
 use Rattle.codes.specs.Numbers.{cut, unused_code}
 use Rattle.codes.specs.Code.{Row, rows, among}
-use Rattle.codes.specs.declared.cursor.ReadByte.{ReadByte}
-use Rattle.codes.specs.declared.cursor.ReadByte.TheVariants as r8
-use Rattle.codes.specs.declared.cursor.ReadWord.{ReadWord}
-use Rattle.codes.specs.declared.cursor.ReadWord.TheVariants as r16
-use Rattle.codes.specs.declared.cursor.ReadLong.{ReadLong}
-use Rattle.codes.specs.declared.cursor.ReadLong.TheVariants as r32
-use Rattle.codes.specs.declared.cursor.ReadDelta16.{ReadDelta16}
-use Rattle.codes.specs.declared.cursor.ReadDelta16.TheVariants as d16
-use Rattle.codes.specs.declared.cursor.ReadDelta32.{ReadDelta32}
-use Rattle.codes.specs.declared.cursor.ReadDelta32.TheVariants as d32
-use Rattle.codes.specs.declared.cursor.ReadCode.{ReadCode}
-use Rattle.codes.specs.declared.cursor.ReadCode.TheVariants as raw
+use Rattle.codes.specs.declared.cursor.Cursor.{Cursor}
+use Rattle.codes.specs.declared.cursor.Signed.{Signed}
+use Rattle.codes.specs.declared.cursor.Signed.TheVariants.{Up, Down}
+use Rattle.codes.specs.declared.cursor.Unreadable.{Unreadable}
+use Rattle.codes.specs.declared.cursor.Unreadable.TheVariants.{Cut, UnusedCode}
 
 -- a reader's answer: its number (rule 3.1), 0 where it is accepted; the value read; the place past it
 pub record Reading : Type 0 where
@@ -88,32 +81,13 @@ read_delta w s at = read_by (2 ^ w) s at
 
 ---- number and values of each answer of the cursor
 
--- rule 3.1: 4 for what is cut short, 7 for an unused code
-abbrev pub of_byte : ReadByte → Reading
-of_byte (r8.Byte v c) = accepted v c.at
-of_byte r8.Cut = refused cut
-
-abbrev pub of_word : ReadWord → Reading
-of_word (r16.Word v c) = accepted v c.at
-of_word r16.Cut = refused cut
-
-abbrev pub of_long : ReadLong → Reading
-of_long (r32.Long v c) = accepted v c.at
-of_long r32.Cut = refused cut
-
-abbrev pub of_delta16 : ReadDelta16 → Reading
-of_delta16 (d16.Delta v c) = accepted v c.at
-of_delta16 d16.Cut = refused cut
-of_delta16 d16.Unused = refused unused_code
-
-abbrev pub of_delta32 : ReadDelta32 → Reading
-of_delta32 (d32.Delta v c) = accepted v c.at
-of_delta32 d32.Cut = refused cut
-of_delta32 d32.Unused = refused unused_code
+-- rule 3.1: 4 for what is cut short, 7 for an unused code; value is the number that a field is
+abbrev pub said : {A : Type 0} → (A → ℕ) → Result (A × Cursor) Unreadable → Reading
+said value (Ok r) = accepted (value r.0) r.1.at
+said value (Err Cut) = refused cut
+said value (Err UnusedCode) = refused unused_code
 
 -- a code not yet reduced, at a field of modulus m: so much up or down
-abbrev pub of_code : (m : ℕ) → ReadCode → Reading
-of_code m (raw.Up v c) = accepted (v % m) c.at
-of_code m (raw.Down v c) = accepted ((m - v) % m) c.at
-of_code m raw.Cut = refused cut
-of_code m raw.Unused = refused unused_code
+abbrev pub reduced : (m : ℕ) → Signed → ℕ
+reduced m (Up v) = v % m
+reduced m (Down v) = (m - v) % m

@@ -4,7 +4,7 @@
 #![tactic(auto)]
 
 use codes::code::Code;
-use codes::cursor::{Cursor, ReadDelta32};
+use codes::cursor::{Cursor, Unreadable};
 use std::io;
 
 fn text(rt: &impl Print, s: &[u8]) -> io::Result<()> {
@@ -25,29 +25,28 @@ fn print_signed(rt: &impl Print, d: u32) -> io::Result<()> {
     }
 }
 
-fn print_code(rt: &impl Print, c: Code) -> io::Result<()> {
+fn print_code(rt: &impl Print, c: Option<Code>) -> io::Result<()> {
     match c {
-        Code::One(x) => print_byte(rt, x),
-        Code::Two(x, y) => {
+        Some(Code::One(x)) => print_byte(rt, x),
+        Some(Code::Two(x, y)) => {
             print_byte(rt, x)?;
             print_byte(rt, y)
         }
-        Code::Three(x, y, z) => {
+        Some(Code::Three(x, y, z)) => {
             print_byte(rt, x)?;
             print_byte(rt, y)?;
             print_byte(rt, z)
         }
-        Code::NoCode => text(rt, b" no code"),
+        None => text(rt, b" no code"),
     }
 }
 
 // What the cursor makes of three bytes.
 fn print_read(rt: &impl Print, bytes: &[u8]) -> io::Result<()> {
-    let start = Cursor { at: 0 };
-    match start.delta32(bytes) {
-        ReadDelta32::Delta(d, _) => print_signed(rt, d)?,
-        ReadDelta32::Cut => text(rt, b"refused 4")?,
-        ReadDelta32::Unused => text(rt, b"refused 7")?,
+    match Cursor::start().delta::<u32>(bytes) {
+        Ok((d, _)) => print_signed(rt, d)?,
+        Err(Unreadable::Cut) => text(rt, b"refused 4")?,
+        Err(Unreadable::UnusedCode) => text(rt, b"refused 7")?,
     }
     text(rt, b"\n")
 }
@@ -55,7 +54,7 @@ fn print_read(rt: &impl Print, bytes: &[u8]) -> io::Result<()> {
 fn show(rt: &impl Print, d: u32) -> io::Result<()> {
     print_signed(rt, d)?;
     text(rt, b" is")?;
-    print_code(rt, codes::code::code32(d))?;
+    print_code(rt, codes::code::encode(d))?;
     text(rt, b"\n")
 }
 

@@ -21,6 +21,7 @@ pub fn only_full(n: u8) -> Due
     }
 }
 
+#[tactic(auto, unfolding(context::specs::Compressor::due_now, context::specs::Field::is_due))]
 pub fn due_now(d: Due, j: Judged) -> DueNow
     ensures { result ≡ due_now d j }
 {
@@ -35,6 +36,7 @@ pub fn due_now(d: Due, j: Judged) -> DueNow
     }
 }
 
+#[tactic(auto, unfolding(context::specs::Compressor::any_due))]
 pub fn any_due(d: DueNow) -> bool
     ensures { result ≡ any_due d }
 {
@@ -42,37 +44,25 @@ pub fn any_due(d: DueNow) -> bool
 }
 
 // A counter after a packet: a fresh change starts it again.
+#[tactic(auto, unfolding(context::specs::Field::counted))]
 fn count(n: u8, fresh: bool, due: u8) -> u8
     ensures { result ≡ counted n fresh due }
 {
-    if fresh {
-        return n;
-    }
-    if due == 0 {
-        return 0;
-    }
-    due - 1
+    if fresh { n } else { due.saturating_sub(1) }
 }
 
+#[tactic(auto, unfolding(context::specs::Compressor::due_after))]
 pub fn count_due(n: u8, d: Due, j: Judged) -> Due
     ensures { result ≡ due_after n d j }
 {
-    let full = count(n, false, d.full);
-    let id = count(n, j.id, d.id);
-    let sequence = count(n, j.sequence, d.sequence);
-    let timestamp = count(n, j.timestamp, d.timestamp);
-    let payload = count(n, j.payload, d.payload);
-    let list = count(n, j.list, d.list);
-    let did = count(n, j.did, d.did);
-    let dts = count(n, j.dts, d.dts);
     Due {
-        full: full,
-        id: id,
-        sequence: sequence,
-        timestamp: timestamp,
-        payload: payload,
-        list: list,
-        did: did,
-        dts: dts,
+        full: count(n, false, d.full),
+        id: count(n, j.id, d.id),
+        sequence: count(n, j.sequence, d.sequence),
+        timestamp: count(n, j.timestamp, d.timestamp),
+        payload: count(n, j.payload, d.payload),
+        list: count(n, j.list, d.list),
+        did: count(n, j.did, d.did),
+        dts: count(n, j.dts, d.dts),
     }
 }

@@ -4,10 +4,11 @@ ghost use Rattle.context.specs.Compressor.{kind_of, kind_number, checksum_sent, 
 use context::compressor::CompressorContext;
 use context::kept::Deltas;
 use context::step::{DueNow, Kind};
-use packet::csrc::Csrc;
+use packet::csrc::{Csrc, no_list};
 use packet::header::Header;
 use packet::parts::Parts;
 
+#[tactic(auto, unfolding(context::specs::Compressor::kind_of))]
 pub fn choose_kind(full: u8, any: bool) -> Kind
     ensures { kind_number result ≡ kind_of full any }
 {
@@ -27,39 +28,29 @@ pub fn sends_checksum(c: CompressorContext) -> bool
     !c.blank
 }
 
+#[tactic(auto, unfolding(context::specs::Compressor::list_if))]
 fn list_if(any: bool, l: Csrc) -> Csrc
     ensures { result ≡ list_if any l }
 {
-    if any {
-        return l;
-    }
-    packet::csrc::no_list()
+    if any { l } else { no_list() }
 }
 
 // What a CU or CR carries; the UDP checksum is the packet's own.
+#[tactic(auto, unfolding(context::specs::Compressor::parts_of))]
 pub fn carry(h: Header, now: DueNow, any: bool, kept: Deltas) -> Parts
     ensures { result ≡ parts_of h now any kept }
 {
-    let list = h.csrc;
-    let id = packet::sent::sent_if16(now.id, h.ip.id);
-    let sequence = packet::sent::sent_if16(now.sequence, h.rtp.sequence);
-    let timestamp = packet::sent::sent_if32(now.timestamp, h.rtp.timestamp);
-    let payload = packet::sent::sent_if8(now.payload, h.rtp.payload);
-    let did = packet::sent::sent_if16(now.did, kept.id);
-    let dsn = packet::sent::sent_if16(false, 0);
-    let dts = packet::sent::sent_if32(now.dts, kept.timestamp);
-    let csrc = list_if(any, list);
     Parts {
         marker: h.marker,
         checksum: h.checksum,
-        id: id,
-        sequence: sequence,
-        timestamp: timestamp,
-        payload: payload,
-        did: did,
-        dsn: dsn,
-        dts: dts,
+        id: now.id.then_some(h.ip.id),
+        sequence: now.sequence.then_some(h.rtp.sequence),
+        timestamp: now.timestamp.then_some(h.rtp.timestamp),
+        payload: now.payload.then_some(h.rtp.payload),
+        did: now.did.then_some(kept.id),
+        dsn: None,
+        dts: now.dts.then_some(kept.timestamp),
         listed: any,
-        csrc: csrc,
+        csrc: list_if(any, h.csrc),
     }
 }

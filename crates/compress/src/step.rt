@@ -8,49 +8,49 @@ use context::kept::{Deltas, Link};
 use context::step::{DueNow, Judged, Kind, Step};
 use packet::header::Header;
 
+#[tactic(auto, unfolding(context::specs::Field::next_sequence))]
 pub fn next_sequence(s: u8) -> u8
     ensures { result ≡ next_sequence s }
 {
     (s % Link::SEQUENCES + 1) % Link::SEQUENCES
 }
 
+#[tactic(auto, unfolding(context::specs::Compressor::deltas_after))]
 fn keep_deltas(kept: Deltas, j: Judged) -> Deltas
     ensures { result ≡ deltas_after kept j }
 {
-    let id = packet::sent::or_kept16(j.did, j.deltas.id, kept.id);
-    let timestamp = packet::sent::or_kept32(j.dts, j.deltas.timestamp, kept.timestamp);
     Deltas {
-        id: id,
-        timestamp: timestamp,
+        id: if j.did { j.deltas.id } else { kept.id },
+        timestamp: if j.dts {
+            j.deltas.timestamp
+        } else {
+            kept.timestamp
+        },
     }
 }
 
+#[tactic(auto, unfolding(context::specs::Compressor::moved))]
 fn move_on(n: u8, h: Header, c: CompressorContext, j: Judged) -> CompressorContext
     ensures { result ≡ moved n h c j }
 {
-    let before = c.due;
-    let kept = c.deltas;
-    let after = due::count_due(n, before, j);
-    let deltas = keep_deltas(kept, j);
-    let sequence = next_sequence(c.link.sequence);
-    let ip = h.ip;
-    let rtp = h.rtp;
-    let csrc = h.csrc;
-    let earlier = Earlier {
-        known: true,
-        id: j.deltas.id,
-        timestamp: j.deltas.timestamp,
-    };
-    let mut d = c;
-    d.ip = ip;
-    d.rtp = rtp;
-    d.csrc = csrc;
-    d.blank = h.checksum == 0;
-    d.deltas = deltas;
-    d.earlier = earlier;
-    d.due = after;
-    d.link.sequence = sequence;
-    d
+    CompressorContext {
+        ip: h.ip,
+        rtp: h.rtp,
+        csrc: h.csrc,
+        blank: h.checksum == 0,
+        deltas: keep_deltas(c.deltas, j),
+        earlier: Earlier {
+            known: true,
+            id: j.deltas.id,
+            timestamp: j.deltas.timestamp,
+        },
+        due: due::count_due(n, c.due, j),
+        link: Link {
+            sequence: next_sequence(c.link.sequence),
+            ..c.link
+        },
+        ..c
+    }
 }
 
 // Any packet after a context's first.
@@ -61,37 +61,27 @@ pub fn next_packet(n: u8, h: Header, c: CompressorContext) -> Step
     let begun = run::begin(n, h, c);
     let ready = judge::reset_deltas(begun);
     let j = judge::judge(h, ready);
-    let counters = ready.due;
-    let now = due::due_now(counters, j);
+    let now = due::due_now(ready.due, j);
     let any = due::any_due(now);
-    let kind = send::choose_kind(ready.due.full, any);
     let next = move_on(n, h, ready, j);
-    let kept = next.deltas;
-    let parts = send::carry(h, now, any, kept);
-    let link = ready.link;
     Step {
-        kind: kind,
-        link: link,
-        parts: parts,
+        kind: send::choose_kind(ready.due.full, any),
+        link: ready.link,
+        parts: send::carry(h, now, any, next.deltas),
         context: next,
     }
 }
 
+#[tactic(auto, unfolding(context::specs::Compressor::first))]
 fn first_context(n: u8, h: Header, link: Link) -> CompressorContext
     ensures { result ≡ first n h link }
 {
-    let flow = h.flow;
-    let ip = h.ip;
-    let rtp = h.rtp;
-    let csrc = h.csrc;
-    let sequence = next_sequence(link.sequence);
-    let due = due::only_full(n);
     CompressorContext {
         status: Usage::Live,
-        flow: flow,
-        ip: ip,
-        rtp: rtp,
-        csrc: csrc,
+        flow: h.flow,
+        ip: h.ip,
+        rtp: h.rtp,
+        csrc: h.csrc,
         blank: h.checksum == 0,
         deltas: Deltas {
             id: 1,
@@ -102,15 +92,16 @@ fn first_context(n: u8, h: Header, link: Link) -> CompressorContext
             id: 0,
             timestamp: 0,
         },
-        due: due,
+        due: due::only_full(n),
         link: Link {
-            sequence: sequence,
-            generation: link.generation,
+            sequence: next_sequence(link.sequence),
+            ..link
         },
     }
 }
 
 // A context's first packet, with the given link sequence and generation: those of whatever used the context before.
+#[tactic(auto, unfolding(context::specs::Compressor::first_step, context::specs::Compressor::first,))]
 pub fn first_packet(n: u8, h: Header, link: Link) -> Step
     ensures { stepped result ≡ first_step n h link }
 {
@@ -124,12 +115,10 @@ pub fn first_packet(n: u8, h: Header, link: Link) -> Step
         dts: false,
     };
     let next = first_context(n, h, link);
-    let kept = next.deltas;
-    let parts = send::carry(h, now, false, kept);
     Step {
         kind: Kind::FullHeader,
-        link: link,
-        parts: parts,
+        link,
+        parts: send::carry(h, now, false, next.deltas),
         context: next,
     }
 }

@@ -4,7 +4,7 @@ use Rattle.std.specs.Prelude.{ℕ, ◌≤◌, ◌<◌, ◌≡◌, Bool, true, fa
 use Rattle.std.proofs.Math.Path.{refl}
 use Rattle.std.proofs.Common.{◌∙◌, arith, leb-true, eqb-true}
 use Rattle.std.proofs.Math.Bool.{and-eq-true_iff}
-use Rattle.std.proofs.Math.Option.{Option, none, some}
+use Rattle.std.specs.Prelude.{Option, Some, None}
 use Rattle.packet.specs.declared.header.Flow.{Flow}
 use Rattle.headers.specs.Header.{header_of}
 use Rattle.headers.specs.Compressible as headers
@@ -40,7 +40,7 @@ same_flow-true a b e =
     }
 
 module _ (t : Table) (f : Flow) (i : ℕ) where
-  place-of : lowest (is_of f) t.contexts 0 t.settings.contexts ≡ some i → Place t f i
+  place-of : lowest (is_of f) t.contexts 0 t.settings.contexts ≡ Some i → Place t f i
   place-of e =
       let r = lowest-found (is_of f) t.contexts 0 t.settings.contexts i e in
       let b = (and-eq-true_iff (not (is_empty (context_at t i))) (same_flow f (context_at t i).flow)).0 r.1 in
@@ -50,17 +50,17 @@ module _ (t : Table) (f : Flow) (i : ℕ) where
   live-empty Empty q e = let z : ◌≡◌ {A = ℕ} 0 1 = cc in omega arith
   live-empty Live q e = let z : ◌≡◌ {A = ℕ} 0 1 = cc in omega arith
 
-  place-empty : lowest is_empty t.contexts 0 t.settings.contexts ≡ some i → Place t f i
+  place-empty : lowest is_empty t.contexts 0 t.settings.contexts ≡ Some i → Place t f i
   place-empty e =
       let r = lowest-found is_empty t.contexts 0 t.settings.contexts i e in
       record { among = omega arith; flow = λ live. absurd (live-empty (context_at t i).status live r.1) }
 
   place-either : (a b : Option ℕ) → lowest (is_of f) t.contexts 0 t.settings.contexts ≡ a
-      → lowest is_empty t.contexts 0 t.settings.contexts ≡ b → or_else a b ≡ some i → Place t f i
-  place-either (some k) b p q e = place-of (p ∙ e)
-  place-either none b p q e = place-empty (q ∙ e)
+      → lowest is_empty t.contexts 0 t.settings.contexts ≡ b → or_else a b ≡ Some i → Place t f i
+  place-either (Some k) b p q e = place-of (p ∙ e)
+  place-either None b p q e = place-empty (q ∙ e)
 
-  pub place_of-found : place_of t f ≡ some i → Place t f i
+  pub place_of-found : place_of t f ≡ Some i → Place t f i
   unfolding place_of
   place_of-found e = place-either (lowest (is_of f) t.contexts 0 t.settings.contexts) _ refl refl e
 
@@ -114,9 +114,9 @@ module _ (t : Table) (p output : List ℕ) where
 
     goes_to : headers.compressible p ≡ true → (x : Option ℕ) → place_of t (header_of p).flow ≡ x
         → Goes t p output (send_to x t p output)
-    goes_to e (some i) q =
+    goes_to e (Some i) q =
         goes_at i (record { sound = sound; compressible = e; most = most; place = place_of-found t (header_of p).flow i q })
-    goes_to e none q = goes-unchanged
+    goes_to e None q = goes-unchanged
 
     goes_by : (b : Bool) → headers.compressible p ≡ b
         → Goes t p output (cond b (send_to (place_of t (header_of p).flow) t p output) (send_plain t p output))

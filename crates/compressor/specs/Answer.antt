@@ -4,8 +4,9 @@ use Rattle.std.specs.Prelude.{ℕ, cond, List, ltb, length}
 use Rattle.codes.specs.Numbers.{no_room}
 use Rattle.octets.specs.Put.{fronted}
 use Rattle.packet.specs.Refusal as refusal
-use Rattle.compressor.specs.declared.answer.Outcome.{Outcome}
-use Rattle.compressor.specs.declared.answer.Outcome.TheVariants.{Accepted, Refused}
+use Rattle.std.specs.Prelude as std
+use Rattle.std.specs.Prelude.{Ok, Err}
+use Rattle.packet.specs.declared.refusal.Refusal.{Refusal}
 use Rattle.compressor.specs.declared.table.Table.{Table}
 
 -- rule 3.1: number (0: accepted), link type and length of what was given out, the output after the call, the table after the call
@@ -31,18 +32,22 @@ delivered before after k bytes output = cond (ltb (length output) (length bytes)
 
 ---- number and values of each outcome
 
+-- what a call answers: the link type and the length of what was given out, or why it is refused
+abbrev pub Outcome : Type 0
+Outcome = std.Result (ℕ × ℕ) Refusal
+
 -- rule 3.1
 abbrev pub number_of : Outcome → ℕ
-number_of (Accepted k n) = 0
-number_of (Refused r) = refusal.number_of r
+number_of (Ok (k, n)) = 0
+number_of (Err r) = refusal.number_of r
 
 abbrev pub type_of : Outcome → ℕ
-type_of (Accepted k n) = k
-type_of (Refused r) = 0
+type_of (Ok (k, n)) = k
+type_of (Err r) = 0
 
 abbrev pub length_of : Outcome → ℕ
-length_of (Accepted k n) = n
-length_of (Refused r) = 0
+length_of (Ok (k, n)) = n
+length_of (Err r) = 0
 
 -- what a call says that answered this, and left this table and this output
 abbrev pub said : Outcome → Table → (output : List ℕ) → Result

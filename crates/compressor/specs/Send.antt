@@ -1,7 +1,7 @@
 -- Iarwennol. A send (rules 3.2, 5.3 to 5.5, 8): what the compressor makes of a packet.
 -- Used by the contract of send, and by the theorem on lists of calls (crtp), which is about this very definition.
 use Rattle.std.specs.Prelude.{ℕ, cond, List, ◌++◌, length, drop}
-use Rattle.std.proofs.Math.Option.{Option, none, some}
+use Rattle.std.specs.Prelude.{Option, Some, None}
 use Rattle.codes.specs.Numbers.{unsound, bad_length}
 use Rattle.packet.specs.Types.{plain}
 use Rattle.packet.specs.declared.header.Header.{Header}
@@ -38,8 +38,8 @@ send_plain t p output = delivered t t plain p output
 
 -- rule 5.4: plain too where no context is left
 abbrev pub send_to : Option ℕ → Table → (p output : List ℕ) → Result
-send_to (some i) t p output = send_at t i p output
-send_to none t p output = send_plain t p output
+send_to (Some i) t p output = send_at t i p output
+send_to None t p output = send_plain t p output
 
 -- rule 3.2: 1, 2, 11
 unfoldable pub send_of : Table → (p output : List ℕ) → Result

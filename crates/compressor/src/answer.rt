@@ -3,8 +3,4 @@ use packet::refusal::Refusal;
 // What became of a call: accepted with the link type and the length of what it gave out, or refused.
 //
 // An opening and a request give nothing out: type 0, length 0.
-#[derive(Clone, Copy)]
-pub enum Outcome {
-    Accepted(u8, usize),
-    Refused(Refusal),
-}
+pub type Outcome = Result<(u8, usize), Refusal>;

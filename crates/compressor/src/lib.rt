@@ -6,5 +6,4 @@
 #![tactic(auto)]
 
 pub mod answer;
-pub mod lookup;
 pub mod table;

@@ -4,7 +4,7 @@ use Prim.Native.Nat.{ℕ, ◌+◌, ◌-◌, ◌<◌, ◌≤◌}
 use mathlib.Core.Path.{◌≡◌, sym, ap, ◌∙◌}
 use mathlib.Core.Bool.{Bool, true, false, cond, not, ◌&&◌, and-true, and-false}
 use mathlib.Core.List.{List}
-use mathlib.Core.Option.{some}
+use Rattle.std.specs.Prelude.{Some}
 use native.Mathlib.Omega.{arith}
 use borrow.Author.Tests.{eq-eqb, ne_eqb}
 use lib.Dec.{eqb}
@@ -54,8 +54,8 @@ is_empty-at w h b i = empty-status (cell b 0 i)
 -- the lowest place from i on, by a test that has been made at place i
 pub lowest-at : (p : CompressorContext → Bool) (l : Lent) (k i : ℕ) → Fits l → i < k → k ≤ 64
     → (z : Bool) → z ≡ p (context_in l.words l.shorts l.bytes i)
-    → lowest p (table_of l).contexts i (k - i) ≡ cond z (some i) (lowest p (table_of l).contexts (i + 1) (k - (i + 1)))
+    → lowest p (table_of l).contexts i (k - i) ≡ cond z (Some i) (lowest p (table_of l).contexts (i + 1) (k - (i + 1)))
 lowest-at p l k i f h m z e =
     lowest-next p (table_of l).contexts i k h
-    ∙ ap (λ (b : Bool). cond b (some i) (lowest p (table_of l).contexts (i + 1) (k - (i + 1))))
+    ∙ ap (λ (b : Bool). cond b (Some i) (lowest p (table_of l).contexts (i + 1) (k - (i + 1))))
     (ap p (table_of-at l i f (omega arith)) ∙ sym e)

@@ -9,11 +9,11 @@ use lib.ListN.{length, get_or, set, replicate, length-set, length-replicate}
 use lib.Seq.{get_or-set_same, get_or-set_other}
 use Rattle.settings.specs.Settings as settings
 use Rattle.settings.specs.declared.Settings.{Settings}
-use Rattle.settings.specs.declared.Opened.TheVariants as opened
+use Rattle.std.specs.Prelude.{Some, None}
 use Rattle.packet.specs.declared.refusal.Refusal.TheVariants.{Unsound}
 use Rattle.context.specs.Sound.{empty_compressor}
 use Rattle.context.specs.declared.compressor.CompressorContext.{CompressorContext}
-use Rattle.compressor.specs.declared.answer.Outcome.TheVariants.{Accepted, Refused}
+use Rattle.std.specs.Prelude.{Ok, Err}
 use Rattle.compressor.specs.declared.table.Table.{Table}
 use Rattle.compressor.specs.Table.{empty_table, open_of}
 use Rattle.planes.specs.Planes.{Lent, lent, row, places}
@@ -56,12 +56,6 @@ module _ (l : Lent) (s : Settings) (z : Sizes l) (w : (x : ℕ) → get_or l.wor
   pub table-zero : table_of l ≡ empty_table s
   table-zero = table_of-fits l (fits-made l z (every_made (typed l.bytes) 64 typed-zero)) ∙ planes-zero
 
-pub cleared-length : (b b' : List ℕ) → b' ≡ replicate (length b) 0 → length b' ≡ length b
-cleared-length b b' e = ap (λ (l : List ℕ). length l) e ∙ length-replicate {A = ℕ} (length b) 0
-
-pub cleared-put : (b b' : List ℕ) (x v : ℕ) → b' ≡ replicate (length b) 0 → length (set b' x v) ≡ length b
-cleared-put b b' x v e = length-set b' x v ∙ cleared-length b b' e
-
 -- three slices cleared, and the settings put
 pub cleared : (s : Settings) (p q r : ℕ) → p ≡ 1344 → q ≡ 384 → r ≡ 1282
     → table_of (lent (replicate p 0) (replicate q 0) (set (set (replicate r 0) 1280 s.repeats) 1281 s.contexts)) ≡ empty_table s
@@ -84,22 +78,22 @@ cleared s p q r ep eq er =
 ---- open_lent
 
 module _ (l : Lent) (n k : ℕ) where
-  pub open-sized : sized l ≡ false → Gives l l (Refused Unsound) [] (open_lent l n k)
+  pub open-sized : sized l ≡ false → Gives l l (Err Unsound) [] (open_lent l n k)
   unfolding open_lent
   open-sized e = record { says = rw e; keeps = λ h. refl }
 
   module _ (z : sized l ≡ true) where
-    pub open-refused : settings.said opened.Refused ≡ settings.open_of n k → Gives l l (Refused Unsound) [] (open_lent l n k)
+    pub open-refused : settings.said None ≡ settings.open_of n k → Gives l l (Err Unsound) [] (open_lent l n k)
     unfolding open_lent open_of
     open-refused e = record { says = rw (z, ← e); keeps = λ h. refl }
 
-    open-says : (s : Settings) → settings.said (opened.Accepted s) ≡ settings.open_of n k
+    open-says : (s : Settings) → settings.said (Some s) ≡ settings.open_of n k
         → open_lent l n k ≡ record { number = 0; kind = 0; length = 0; output = []; table = empty_table s }
     unfolding open_lent open_of
     open-says s e = rw (z, ← e)
 
-    pub open-accepted : (s : Settings) (after : Lent) → settings.said (opened.Accepted s) ≡ settings.open_of n k
-        → table_of after ≡ empty_table s → Gives l after (Accepted 0 0) [] (open_lent l n k)
+    pub open-accepted : (s : Settings) (after : Lent) → settings.said (Some s) ≡ settings.open_of n k
+        → table_of after ≡ empty_table s → Gives l after (Ok (0, 0)) [] (open_lent l n k)
     open-accepted s after e t = record {
       says = rw t (sym (open-says s e));
       keeps = λ h. absurd (h (ap (λ r. r.number) (open-says s e)));

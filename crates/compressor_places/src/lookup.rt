@@ -1,10 +1,9 @@
 ghost use Rattle.std.specs.Prelude.{◌≡◌, ◌<◌, ◌≤◌, length};
 ghost use Rattle.planes.specs.Planes.{lent};
-ghost use Rattle.compressor.specs.Lookup.{place_in, place_of, lowest, is_of};
+ghost use Rattle.compressor.specs.Lookup.{place_of, lowest, is_of};
 ghost use Rattle.compressor.specs.Table.{is_empty};
 ghost use Rattle.compressor_table.specs.Layout.{context_in, table_of, Fits};
 
-use compressor::lookup::Found;
 use compressor_table::layout::Layout;
 use packet::header::Flow;
 
@@ -23,44 +22,37 @@ fn is_of(w: &[u32], h: &[u16], b: &[u8], i: usize, f: Flow) -> bool
     false
 }
 
-fn lowest_of(w: &[u32], h: &[u16], b: &[u8], k: usize, f: Flow) -> Found
+fn lowest_of(w: &[u32], h: &[u16], b: &[u8], k: usize, f: Flow) -> Option<usize>
     requires { Fits (lent w.now h.now b.now) × (k ≤ 64) }
-    ensures { place_in result
+    ensures { result
         ≡ lowest (is_of f) (table_of (lent w.now h.now b.now)).contexts 0 k }
 {
-    let mut i = 0;
-    while i < k {
+    for i in 0..k {
         if is_of(w, h, b, i, f) {
-            return Found::At(i);
+            return Some(i);
         }
-        i += 1;
     }
-    Found::Nowhere
+    None
 }
 
-fn lowest_empty(w: &[u32], h: &[u16], b: &[u8], k: usize) -> Found
+fn lowest_empty(w: &[u32], h: &[u16], b: &[u8], k: usize) -> Option<usize>
     requires { Fits (lent w.now h.now b.now) × (k ≤ 64) }
-    ensures { place_in result
+    ensures { result
         ≡ lowest is_empty (table_of (lent w.now h.now b.now)).contexts 0 k }
 {
-    let mut i = 0;
-    while i < k {
+    for i in 0..k {
         if b[Layout::STATUS + i] == 0 {
-            return Found::At(i);
+            return Some(i);
         }
-        i += 1;
     }
-    Found::Nowhere
+    None
 }
 
 // The lowest context of the flow, else the lowest that is empty.
-pub fn find(w: &[u32], h: &[u16], b: &[u8], f: Flow) -> Found
+pub fn find(w: &[u32], h: &[u16], b: &[u8], f: Flow) -> Option<usize>
     requires { Fits (lent w.now h.now b.now) × ((table_of (lent w.now h.now b.now)).settings.contexts ≤ 64) }
-    ensures { place_in result ≡ place_of (table_of (lent w.now h.now b.now)) f }
+    ensures { result ≡ place_of (table_of (lent w.now h.now b.now)) f }
 {
     let k = b[Layout::CONTEXTS] as usize;
-    match lowest_of(w, h, b, k, f) {
-        Found::At(i) => Found::At(i),
-        Found::Nowhere => lowest_empty(w, h, b, k),
-    }
+    lowest_of(w, h, b, k, f).or_else(|| lowest_empty(w, h, b, k))
 }

@@ -1,20 +1,11 @@
 ghost use Rattle.std.specs.Prelude.{◌≡◌};
 ghost use Rattle.context.specs.Sound.{zero_due};
-ghost use Rattle.compressor_steady.specs.Steady.{is_live, on_pattern, steady};
+ghost use Rattle.compressor_steady.specs.Steady.{on_pattern, steady};
 
-use codes::difference::{difference16, difference32};
+use codes::field::DeltaField;
 use compress::run::same_constants;
 use context::compressor::{CompressorContext, Due, Usage};
 use packet::header::Header;
-
-fn is_live(s: Usage) -> bool
-    ensures { result ≡ is_live s }
-{
-    match s {
-        Usage::Empty => false,
-        Usage::Live => true,
-    }
-}
 
 fn is_idle(d: Due) -> bool
     ensures { result ≡ zero_due d }
@@ -32,28 +23,19 @@ fn is_idle(d: Due) -> bool
 fn is_on_pattern(h: Header, c: CompressorContext) -> bool
     ensures { result ≡ on_pattern h c }
 {
-    let id = difference16(c.ip.id, h.ip.id);
-    let sequence = difference16(c.rtp.sequence, h.rtp.sequence);
-    let timestamp = difference32(c.rtp.timestamp, h.rtp.timestamp);
-    let mine = h.csrc;
-    let kept = c.csrc;
-    (id == c.deltas.id)
-        & (sequence == 1)
-        & (timestamp == c.deltas.timestamp)
+    (c.ip.id.difference(h.ip.id) == c.deltas.id)
+        & (c.rtp.sequence.difference(h.rtp.sequence) == 1)
+        & (c.rtp.timestamp.difference(h.rtp.timestamp) == c.deltas.timestamp)
         & (h.rtp.payload == c.rtp.payload)
-        & (mine.count == 0)
-        & (kept.count == 0)
+        & (h.csrc.count == 0)
+        & (c.csrc.count == 0)
 }
 
 // Whether a packet goes out as a CR with no field but the UDP checksum. It says so of no packet with a list, which would have to
 // be compared.
+#[tactic(auto, unfolding(crate::specs::Steady::steady))]
 pub fn is_steady(h: Header, c: CompressorContext) -> bool
     ensures { result ≡ steady h c }
 {
-    let status = c.status;
-    let due = c.due;
-    let live = is_live(status);
-    let same = same_constants(h, c);
-    let idle = is_idle(due);
-    live & same & idle & is_on_pattern(h, c)
+    matches!(c.status, Usage::Live) & same_constants(h, c) & is_idle(c.due) & is_on_pattern(h, c)
 }

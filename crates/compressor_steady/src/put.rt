@@ -7,7 +7,7 @@ use compress::send::sends_checksum;
 use context::compressor::CompressorContext;
 use links_write::head::put_head;
 use octets::flags::Flags;
-use octets::put::put16_if;
+use octets::put::put_if;
 use packet::header::Header;
 
 // What goes out before the rest of a steady packet: the head of a CR, and the UDP checksum where there is one.
@@ -24,5 +24,5 @@ pub fn put_steady(out: &mut [u8], i: u8, x: Header, c: CompressorContext) -> usi
         low: c.link.sequence,
     };
     let at = put_head(out, 0, i, flags);
-    put16_if(out, at, carried, x.checksum)
+    put_if(out, at, carried, x.checksum)
 }

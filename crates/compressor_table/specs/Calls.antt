@@ -2,7 +2,7 @@
 -- Used by the contract of every call of the compressor.
 use Rattle.std.specs.Prelude.{ℕ, ◌≡◌, cond, List, []}
 use Rattle.codes.specs.Numbers.{unsound}
-use Rattle.compressor.specs.declared.answer.Outcome.{Outcome}
+use Rattle.compressor.specs.Answer.{Outcome}
 use Rattle.compressor.specs.Answer.{Result, refused, said}
 use Rattle.compressor.specs.Table.{open_of}
 use Rattle.planes.specs.Planes.{Lent}

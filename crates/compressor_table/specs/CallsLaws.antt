@@ -2,8 +2,8 @@
 -- Used by the proofs of the compressor's calls.
 use Rattle.std.specs.Prelude.{ℕ, ◌≡◌, refl, true, List}
 use Rattle.std.proofs.Common.{sym, ap, ◌∙◌}
-use Rattle.compressor.specs.declared.answer.Outcome.{Outcome}
-use Rattle.compressor.specs.declared.answer.Outcome.TheVariants.{Accepted}
+use Rattle.compressor.specs.Answer.{Outcome}
+use Rattle.std.specs.Prelude.{Ok}
 use Rattle.compressor.specs.Answer.{Result, said}
 use Rattle.compressor.specs.Table.{open_of}
 use Rattle.planes.specs.Planes.{Lent}
@@ -17,7 +17,7 @@ gives-kept l o output want e = record { says = e; keeps = λ h. refl }
 
 -- a call that is accepted
 pub gives-accepted : (before after : Lent) (k n : ℕ) (output : List ℕ) (want : Result)
-    → said (Accepted k n) (table_of after) output ≡ want → Gives before after (Accepted k n) output want
+    → said (Ok (k, n)) (table_of after) output ≡ want → Gives before after (Ok (k, n)) output want
 gives-accepted before after k n output want e = record {
   says = e;
   keeps = λ h. absurd (h (sym (ap (λ (r : Result). r.number) e)));

@@ -2,7 +2,6 @@
 -- Used by the contract of every call on a table that is lent.
 use Rattle.std.specs.Prelude.{ℕ, ◌≡◌, Bool, true, ◌&&◌, cond, List, [], ◌∷◌, eqb, leb, length, get_or, drop}
 use Rattle.packet.specs.declared.csrc.Csrc.{Csrc}
-use Rattle.packet.specs.declared.header.Flow.{Flow}
 use Rattle.packet.specs.declared.header.Ip.{Ip}
 use Rattle.packet.specs.declared.header.Rtp.{Rtp}
 use Rattle.context.specs.declared.kept.Deltas.{Deltas}
@@ -15,20 +14,12 @@ use Rattle.context.specs.declared.compressor.CompressorContext.{CompressorContex
 use Rattle.compressor.specs.declared.table.Table.{Table}
 use Rattle.compressor.specs.Table.{unopened, with_context}
 use Rattle.planes.specs.Planes.{Lent, row, places, every}
+pub use Rattle.planes.specs.Flow.{flow_of}
 
 ---- A context of its row: 21 words, 6 shorts, 20 bytes
 
 abbrev pub usage_of : ℕ → Usage
 usage_of n = cond (eqb n 0) Empty Live
-
-abbrev pub flow_of : (w h : List ℕ) → Flow
-flow_of w h = record {
-  source = get_or w 0 0;
-  destination = get_or w 1 0;
-  sport = get_or h 0 0;
-  dport = get_or h 1 0;
-  ssrc = get_or w 2 0;
-}
 
 abbrev pub ip_of : (h b : List ℕ) → Ip
 ip_of h b = record { tos = get_or b 1 0; ttl = get_or b 2 0; flags = get_or b 3 0; id = get_or h 2 0 }

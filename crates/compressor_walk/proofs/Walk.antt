@@ -1,8 +1,8 @@
 -- Iarwennol. The loops of the walk together are the soundness of the table, context by context. Assume nothing.
--- Used by the proofs of sound, wide_sound and lists_sound, and by Found.
+-- Used by the proofs of sound and wide_sound.
 use Prim.Native.Nat.{ℕ, zero, suc, ◌+◌, ◌%◌, ◌<◌}
 use mathlib.Core.Path.{◌≡◌, refl, sym, ap, ◌∙◌}
-use mathlib.Core.Bool.{Bool, true, false, cond, not, ◌&&◌, ◌||◌, and_assoc, or-true, and-eq-true_iff}
+use mathlib.Core.Bool.{Bool, true, false, cond, not, ◌&&◌, ◌||◌, and_assoc, and-eq-true_iff}
 use mathlib.Core.List.{List, [], ◌∷◌}
 use native.Mathlib.Nat.{zero-add}
 use native.Mathlib.Omega.{arith}
@@ -17,13 +17,13 @@ use Rattle.context.specs.declared.compressor.CompressorContext.{CompressorContex
 use Rattle.compressor.specs.Table.{is_empty, sound_of, unopened}
 use Rattle.compressor.proofs.TableLaws.{unsound-unopened}
 use Rattle.compressor.specs.declared.table.Table.{Table}
-use Rattle.planes.specs.Planes.{Lent, cell, row, places, every}
-use Rattle.planes.proofs.EveryLaws.{every-and, every-same, every-swap, every-at, every_made}
+use Rattle.planes.specs.Planes.{Lent, cell, row, places, every, unused_at}
+use Rattle.planes.proofs.EveryLaws.{every-and, every-same, every-swap}
 use Rattle.planes.proofs.EveryLaws.{all-places, tail-places, every_given, passed}
 use Rattle.planes.proofs.ChainLaws.{Chain, none, leaf, both, eval, implied, same, absorbed, absorbed', under, one-zero}
 use Rattle.compressor_table.specs.Layout.{usage_of, context_of, context_in, plane_table, sized, typed, fits, table_of}
 use Rattle.compressor_table.specs.LayoutLaws.{empty-status}
-use Rattle.compressor_walk.specs.Walk.{head_test, due_test, short_test, word_test, past_at, free_at, unused_at}
+use Rattle.compressor_walk.specs.Walk.{head_test, due_test, short_test, word_test, past_at}
 use Rattle.compressor_walk.specs.Walk.{used_at, even_at, coded_at}
 
 ---- One place in use: the same tests in another order
@@ -342,11 +342,6 @@ walk H D S W T C P m q h =
     ∙ ap (λ (x : Bool). x && every W m) (every-and two S m ∙ ap (λ (x : Bool). x && every S m) (every-and H D m))))
     ∙ every-same (λ (i : ℕ). four i && Q i) (λ (i : ℕ). T i && C i) m h
     ∙ every-and T C m
-
--- a plane without words
-pub free-past : (w b : List ℕ) (k : ℕ) → every (free_at w k) 64 ≡ true → true ≡ every (past_at w b k) 64
-free-past w b k e =
-    sym (every_made (past_at w b k) 64 (λ i h. rw (every-at (free_at w k) 64 i h e) (or-true (ltb k (cell b 8 i)))))
 
 -- every place in use: of the wide numbers only the ranges are left
 module _ (w h b : List ℕ) where

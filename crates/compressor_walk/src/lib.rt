@@ -1,8 +1,8 @@
 // Whether a compressor's table that is lent is sound.
 //
-// It is asked before every call, so its loops are straight: each goes over a few planes, makes the same tests at every place and
-// has no way out before the last. `specs/Walk.antt` says what each loop tests; `proofs/Walk.antt` that all of it together is the
-// definition's soundness, context by context.
+// It is asked before every call, so each walk is straight: it goes over a few planes and makes the same tests at every place, with
+// no way out before the last (`planes::every`). `specs/Walk.antt` says what each walk tests; `proofs/Walk.antt` that all of it
+// together is the definition's soundness, context by context.
 // Read `sound` first.
 #![tactic(auto)]
 

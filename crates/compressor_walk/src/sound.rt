@@ -2,12 +2,14 @@ ghost use Rattle.std.specs.Prelude.{◌≡◌, ◌&&◌, ◌<◌, ◌≤◌, len
 ghost use Rattle.planes.specs.Planes.{lent, row, every};
 ghost use Rattle.compressor.specs.Table.{sound_of};
 ghost use Rattle.compressor_table.specs.Layout.{table_of};
-ghost use Rattle.compressor_walk.specs.Walk.{head_test, due_test, short_test, word_test, past_at, free_at, unused_at};
+ghost use Rattle.compressor_walk.specs.Walk.{head_test, due_test, short_test, word_test};
 ghost use Rattle.compressor_walk.specs.Walk.{used_at, even_at, coded_at};
 
 use codes::code::has_code32;
 use compressor_table::layout::Layout;
-use planes::numbers::place_numbers;
+use planes::every::every_below;
+use planes::lists;
+use planes::numbers::unused_from;
 use settings::Settings;
 
 // What came from a header, at each place.
@@ -15,31 +17,27 @@ fn heads_sound(b: &[u8]) -> bool
     requires { length b.now ≡ 1282 }
     ensures { result ≡ every (λ i. head_test (row b.now i 0 20)) 64 }
 {
-    let mut ok = true;
-    let mut i = 0;
-    while i < Settings::PLACES {
-        ok = ok
-            & ((b[Layout::STATUS + i] <= 1)
-                & (b[Layout::FLAGS + i] <= 3)
-                & (b[Layout::PADDING + i] <= 1)
-                & (b[Layout::EXTENSION + i] <= 1)
-                & (b[Layout::BLANK + i] <= 1)
-                & (b[Layout::PAYLOAD + i] <= 127)
-                & (b[Layout::COUNT + i] <= 15)
-                & (b[Layout::EARLIER_KNOWN + i] <= 1)
-                & (!(b[Layout::STATUS + i] == 0)
-                    | ((b[Layout::TOS + i] == 0)
-                        & (b[Layout::TTL + i] == 0)
-                        & (b[Layout::FLAGS + i] == 0)
-                        & (b[Layout::PADDING + i] == 0)
-                        & (b[Layout::EXTENSION + i] == 0)
-                        & (b[Layout::BLANK + i] == 0)
-                        & (b[Layout::PAYLOAD + i] == 0)
-                        & (b[Layout::COUNT + i] == 0)
-                        & (b[Layout::EARLIER_KNOWN + i] == 0))));
-        i += 1;
-    }
-    ok
+    every_below(
+        Settings::PLACES,
+        |i| (b[Layout::STATUS + i] <= 1)
+            & (b[Layout::FLAGS + i] <= 3)
+            & (b[Layout::PADDING + i] <= 1)
+            & (b[Layout::EXTENSION + i] <= 1)
+            & (b[Layout::BLANK + i] <= 1)
+            & (b[Layout::PAYLOAD + i] <= 127)
+            & (b[Layout::COUNT + i] <= 15)
+            & (b[Layout::EARLIER_KNOWN + i] <= 1)
+            & (!(b[Layout::STATUS + i] == 0)
+                | ((b[Layout::TOS + i] == 0)
+                    & (b[Layout::TTL + i] == 0)
+                    & (b[Layout::FLAGS + i] == 0)
+                    & (b[Layout::PADDING + i] == 0)
+                    & (b[Layout::EXTENSION + i] == 0)
+                    & (b[Layout::BLANK + i] == 0)
+                    & (b[Layout::PAYLOAD + i] == 0)
+                    & (b[Layout::COUNT + i] == 0)
+                    & (b[Layout::EARLIER_KNOWN + i] == 0))),
+    )
 }
 
 // What is due, and where the context stands on the link, at each place.
@@ -48,11 +46,13 @@ fn dues_sound(n: u8, b: &[u8]) -> bool
     ensures { result ≡ every (λ i. due_test n (row b.now i 0 20)) 64 }
 {
     let full = n + 1;
-    let mut ok = true;
-    let mut i = 0;
-    while i < Settings::PLACES {
-        ok = ok
-            & ((b[Layout::DUE_FULL + i] <= full)
+    every_below(
+        Settings::PLACES,
+        // The check gathers no requires out of so many tests: here it is written.
+        |i|
+            requires { (i < 64) × (length b.now ≡ 1282) }
+        {
+            (b[Layout::DUE_FULL + i] <= full)
                 & (b[Layout::DUE_ID + i] <= n)
                 & (b[Layout::DUE_SEQUENCE + i] <= n)
                 & (b[Layout::DUE_TIMESTAMP + i] <= n)
@@ -72,53 +72,43 @@ fn dues_sound(n: u8, b: &[u8]) -> bool
                         & (b[Layout::DUE_DID + i] == 0)
                         & (b[Layout::DUE_DTS + i] == 0)
                         & (b[Layout::LINK_SEQUENCE + i] == 0)
-                        & (b[Layout::LINK_GENERATION + i] == 0))));
-        i += 1;
-    }
-    ok
+                        & (b[Layout::LINK_GENERATION + i] == 0)))
+        },
+    )
 }
 
 fn shorts_sound(h: &[u16], b: &[u8]) -> bool
     requires { (length h.now ≡ 384) × (length b.now ≡ 1282) }
     ensures { result ≡ every (λ i. short_test (row h.now i 0 6) (row b.now i 0 20)) 64 }
 {
-    let mut ok = true;
-    let mut i = 0;
-    while i < Settings::PLACES {
-        ok = ok
-            & ((!(b[Layout::STATUS + i] == 0)
-                | ((h[Layout::SPORT + i] == 0)
-                    & (h[Layout::DPORT + i] == 0)
-                    & (h[Layout::ID + i] == 0)
-                    & (h[Layout::SEQUENCE + i] == 0)
-                    & (h[Layout::DELTA_ID + i] == 0)
-                    & (h[Layout::EARLIER_ID + i] == 0)))
-                & (h[Layout::DPORT + i] % 2 == 0));
-        i += 1;
-    }
-    ok
+    every_below(
+        Settings::PLACES,
+        |i| (!(b[Layout::STATUS + i] == 0)
+            | ((h[Layout::SPORT + i] == 0)
+                & (h[Layout::DPORT + i] == 0)
+                & (h[Layout::ID + i] == 0)
+                & (h[Layout::SEQUENCE + i] == 0)
+                & (h[Layout::DELTA_ID + i] == 0)
+                & (h[Layout::EARLIER_ID + i] == 0)))
+            & (h[Layout::DPORT + i] % 2 == 0),
+    )
 }
 
 fn words_sound(w: &[u32], b: &[u8]) -> bool
     requires { (length w.now ≡ 1344) × (length b.now ≡ 1282) }
     ensures { result ≡ every (λ i. word_test (row w.now i 0 21) (row b.now i 0 20)) 64 }
 {
-    let mut ok = true;
-    let mut i = 0;
-    while i < Settings::PLACES {
+    every_below(Settings::PLACES, |i| {
         let coded = has_code32(w[Layout::DELTA_TIMESTAMP + i]);
-        ok = ok
-            & ((!(b[Layout::STATUS + i] == 0)
-                | ((w[Layout::SOURCE + i] == 0)
-                    & (w[Layout::DESTINATION + i] == 0)
-                    & (w[Layout::SSRC + i] == 0)
-                    & (w[Layout::TIMESTAMP + i] == 0)
-                    & (w[Layout::DELTA_TIMESTAMP + i] == 0)
-                    & (w[Layout::EARLIER_TIMESTAMP + i] == 0)))
-                & coded);
-        i += 1;
-    }
-    ok
+        (!(b[Layout::STATUS + i] == 0)
+            | ((w[Layout::SOURCE + i] == 0)
+                & (w[Layout::DESTINATION + i] == 0)
+                & (w[Layout::SSRC + i] == 0)
+                & (w[Layout::TIMESTAMP + i] == 0)
+                & (w[Layout::DELTA_TIMESTAMP + i] == 0)
+                & (w[Layout::EARLIER_TIMESTAMP + i] == 0)))
+            & coded
+    })
 }
 
 // Whether every place is in use.
@@ -126,40 +116,24 @@ fn all_used(b: &[u8]) -> bool
     requires { length b.now ≡ 1282 }
     ensures { result ≡ every (used_at b.now) 64 }
 {
-    let mut ok = true;
-    let mut i = 0;
-    while i < Settings::PLACES {
-        ok = ok & !(b[Layout::STATUS + i] == 0);
-        i += 1;
-    }
-    ok
+    every_below(Settings::PLACES, |i| !(b[Layout::STATUS + i] == 0))
 }
 
 fn ports_even(h: &[u16]) -> bool
     requires { length h.now ≡ 384 }
     ensures { result ≡ every (even_at h.now) 64 }
 {
-    let mut ok = true;
-    let mut i = 0;
-    while i < Settings::PLACES {
-        ok = ok & (h[Layout::DPORT + i] % 2 == 0);
-        i += 1;
-    }
-    ok
+    every_below(Settings::PLACES, |i| h[Layout::DPORT + i] % 2 == 0)
 }
 
 fn deltas_coded(w: &[u32]) -> bool
     requires { length w.now ≡ 1344 }
     ensures { result ≡ every (coded_at w.now) 64 }
 {
-    let mut ok = true;
-    let mut i = 0;
-    while i < Settings::PLACES {
-        let coded = has_code32(w[Layout::DELTA_TIMESTAMP + i]);
-        ok = ok & coded;
-        i += 1;
-    }
-    ok
+    every_below(
+        Settings::PLACES,
+        |i| has_code32(w[Layout::DELTA_TIMESTAMP + i]),
+    )
 }
 
 // Numbers of 16 and of 32 bits. Where every place is in use none of them has to be 0: two planes are walked in place of twelve.
@@ -176,75 +150,6 @@ fn wide_sound(w: &[u32], h: &[u16], b: &[u8]) -> bool
     let shorts = shorts_sound(h, b);
     let words = words_sound(w, b);
     shorts & words
-}
-
-// Word k of the lists: 0 at every place.
-fn plane_free(w: &[u32], k: u8) -> bool
-    requires { (length w.now ≡ 1344) × (k < 15) }
-    ensures { result ≡ every (free_at w.now k) 64 }
-{
-    let f = 64 * (6 + k as usize);
-    let mut ok = true;
-    let mut i = 0;
-    while i < Settings::PLACES {
-        ok = ok & (w[f + i] == 0);
-        i += 1;
-    }
-    ok
-}
-
-// Word k of the lists: 0 where the count does not reach past it.
-fn plane_past(w: &[u32], b: &[u8], k: u8) -> bool
-    requires { (length w.now ≡ 1344) × (length b.now ≡ 1282) × (k < 15) }
-    ensures { result ≡ every (past_at w.now b.now k) 64 }
-{
-    let f = 64 * (6 + k as usize);
-    let mut ok = true;
-    let mut i = 0;
-    while i < Settings::PLACES {
-        ok = ok & ((k < b[Layout::COUNT + i]) | (w[f + i] == 0));
-        i += 1;
-    }
-    ok
-}
-
-// Where no list reaches so far the plane alone tells; with the counts beside it a plane takes several times as long.
-fn plane_sound(w: &[u32], b: &[u8], k: u8) -> bool
-    requires { (length w.now ≡ 1344) × (length b.now ≡ 1282) × (k < 15) }
-    ensures { result ≡ every (past_at w.now b.now k) 64 }
-{
-    if plane_free(w, k) {
-        return true;
-    }
-    plane_past(w, b, k)
-}
-
-fn lists_sound(w: &[u32], b: &[u8]) -> bool
-    requires { (length w.now ≡ 1344) × (length b.now ≡ 1282) }
-    ensures { result ≡ every (λ k. every (past_at w.now b.now k) 64) 15 }
-{
-    let mut ok = true;
-    let mut k = 0;
-    while k < 15 {
-        ok = ok & plane_sound(w, b, k);
-        k += 1;
-    }
-    ok
-}
-
-// Places from k on are not in use.
-fn unused_from(b: &[u8], k: u8) -> bool
-    requires { length b.now ≡ 1282 }
-    ensures { result ≡ every (unused_at b.now k) 64 }
-{
-    let numbers = place_numbers();
-    let mut ok = true;
-    let mut i = 0;
-    while i < Settings::PLACES {
-        ok = ok & ((numbers[i] < k) | (b[Layout::STATUS + i] == 0));
-        i += 1;
-    }
-    ok
 }
 
 // Whether three slices hold a table that the calls can leave.
@@ -267,7 +172,12 @@ pub fn sound(w: &[u32], h: &[u16], b: &[u8]) -> bool
     let heads = heads_sound(b);
     let dues = dues_sound(settings.repeats, b);
     let wide = wide_sound(w, h, b);
-    let lists = lists_sound(w, b);
+    let lists = lists::are_ended(
+        w,
+        Layout::CSRC / Settings::PLACES,
+        b,
+        Layout::COUNT / Settings::PLACES,
+    );
     let unused = unused_from(b, settings.contexts);
     heads & dues & wide & lists & unused
 }

@@ -7,6 +7,9 @@ use mathlib.Core.Bool.{Bool, true, false, cond, not, false≢true, true≢false}
 use native.Mathlib.Omega.{arith}
 use lib.Dec.{eqb, ltb}
 use borrow.Author.Tests.{eqb-true, ltb-true, ltb-false, lt-ltb, le-ltb, not-false}
+use Rattle.std.specs.Prelude.{None, unwrap_or}
+use Rattle.std.specs.Bool.{then_some}
+use Rattle.codes.specs.Difference.{sum}
 use Rattle.packet.specs.Csrc.{same_list}
 use Rattle.packet.specs.CsrcLaws.{same_list-true}
 use Rattle.packet.specs.Ranges.{HeaderInRange}
@@ -29,7 +32,7 @@ use Rattle.context.specs.declared.decompressor.Status.TheVariants.{Live}
 use Rattle.context.specs.declared.decompressor.DecompressorContext.{DecompressorContext}
 use Rattle.context.proofs.Tests.{SameConstants, same-constants, adopts_id-off, adopts_timestamp-off, adopts_id-full}
 use Rattle.context.proofs.Tests.{adopts_timestamp-full, is_due-false, any_due-false}
-use Rattle.context.proofs.FieldLaws.{cond-carried, delta-arrives, value-arrives, near-now}
+use Rattle.context.proofs.FieldLaws.{then_some-carried, delta-arrives, value-arrives, near-now}
 use Rattle.context.proofs.Gap.{gap-lost, applied-in-step}
 use Rattle.context.proofs.Begun.{started-full, begun-same, begun-started, reset-full, reset-running, ready-same, ready-kept}
 use Rattle.context.proofs.Begun.{ready_held}
@@ -162,9 +165,8 @@ module _ (n j : ℕ) (v : DecompressorContext) (h : Header) (c : CompressorConte
     (few : j ≤ n) (flow : h.flow ≡ c.flow)
     (g : SameConstants h c) (m : Close n j v c) where
   number-arrives :
-      moved_on 16 (suc j) v.rtp.sequence 1 false 0
-      (is_due (off_pattern 16 c.rtp.sequence 1 h.rtp.sequence) c.due.sequence)
-      (cond (is_due (off_pattern 16 c.rtp.sequence 1 h.rtp.sequence) c.due.sequence) h.rtp.sequence 0)
+      moved_on (sum 16) (suc j) v.rtp.sequence 1 None
+      (then_some (is_due (off_pattern 16 c.rtp.sequence 1 h.rtp.sequence) c.due.sequence) h.rtp.sequence)
       ≡ h.rtp.sequence
   unfolding is_due
   number-arrives =
@@ -172,10 +174,9 @@ module _ (n j : ℕ) (v : DecompressorContext) (h : Header) (c : CompressorConte
       (off_pattern 16 c.rtp.sequence 1 h.rtp.sequence) false m.number few refl (λ e. absurd (false≢true e))
 
   payload-arrives :
-      cond (is_due (not (eqb h.rtp.payload c.rtp.payload)) c.due.payload)
-      (cond (is_due (not (eqb h.rtp.payload c.rtp.payload)) c.due.payload) h.rtp.payload 0) v.rtp.payload
+      unwrap_or (then_some (is_due (not (eqb h.rtp.payload c.rtp.payload)) c.due.payload) h.rtp.payload) v.rtp.payload
       ≡ h.rtp.payload
-  payload-arrives = cond-carried (is_due (not (eqb h.rtp.payload c.rtp.payload)) c.due.payload) h.rtp.payload
+  payload-arrives = then_some-carried (is_due (not (eqb h.rtp.payload c.rtp.payload)) c.due.payload) h.rtp.payload
       v.rtp.payload
       (λ e. let s = is_due-false (not (eqb h.rtp.payload c.rtp.payload)) c.due.payload e in
       m.payload (omega (arith, s.1)) ∙ sym (eqb-true h.rtp.payload c.rtp.payload (not-false _ s.0)))

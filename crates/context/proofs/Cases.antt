@@ -1,15 +1,12 @@
 -- Iarwennol. Worked cases of one context.
 -- Both ends' rules held to numbers worked out by hand (rules 7.7, 11.2, 12.1), above all where the relation does not see a rule.
 -- Used by no definition.
-use Rattle.std.specs.Prelude.{ℕ, ◌≡◌, refl, true, false}
+use Rattle.std.specs.Prelude.{ℕ, ◌≡◌, refl, true, false, Option, Some, None}
 use Rattle.codes.specs.Difference.{difference, sum, has_code}
 use Rattle.packet.specs.Csrc.{same_list, no_list}
-use Rattle.packet.specs.Sent.{sent_if8, sent_if16, sent_if32}
 use Rattle.packet.specs.declared.header.Header.{Header}
 use Rattle.packet.specs.declared.header.RtpHeader.{RtpHeader}
 use Rattle.packet.specs.declared.parts.Parts.{Parts}
-use Rattle.packet.specs.declared.sent.Sent16.{Sent16}
-use Rattle.packet.specs.declared.sent.Sent32.{Sent32}
 use Rattle.context.specs.Field.{next_sequence, next_generation, off_pattern, counted, is_due, gap, moved_on}
 use Rattle.context.specs.Compressor.{first, started, same_constants, begun, started_unless_due, requested, reset, adopts_id}
 use Rattle.context.specs.Compressor.{adopts_timestamp, judged, due_now, any_due, kind_of, list_if, parts_of, due_after}
@@ -55,50 +52,44 @@ steady = after 0 (after 0 (opened 0 (voice 1 7 980)) (voice 2 8 990)) (voice 3 9
 abbrev pub heard : DecompressorContext
 heard = filled (voice 1 7 10) (record { sequence = 0; generation = 0 })
 
-abbrev pub none16 : Sent16
-none16 = sent_if16 false 0
-
-abbrev pub none32 : Sent32
-none32 = sent_if32 false 0
-
 -- a CU or CR with the marker set and no field but perhaps these: the timestamp, differences of ID and timestamp
-abbrev pub bringing : (t : Sent32) (did : Sent16) (dts : Sent32) → Parts
+abbrev pub bringing : (t did dts : Option ℕ) → Parts
 bringing t did dts = record {
   marker = true;
   checksum = 0;
-  id = none16;
-  sequence = none16;
+  id = None;
+  sequence = None;
   timestamp = t;
-  payload = sent_if8 false 0;
+  payload = None;
   did = did;
-  dsn = none16;
+  dsn = None;
   dts = dts;
   listed = false;
   csrc = no_list;
 }
 
 abbrev pub nothing : Parts
-nothing = bringing none32 none16 none32
+nothing = bringing None None None
 
 -- an ID's difference of 5
 abbrev pub five : Parts
-five = bringing none32 (sent_if16 true 5) none32
+five = bringing None (Some 5) None
 
 -- N 2, and after it a CU with F that brought the deltas 3 and 160: link sequence 1, ID 4, sequence 8, timestamp 170
 abbrev pub paced : DecompressorContext
-paced = (applied 2 1 heard (bringing none32 (sent_if16 true 3) (sent_if32 true 160))).context
+paced = (applied 2 1 heard (bringing None (Some 3) (Some 160))).context
 
 -- after that a CU with F and link sequence 2, and perhaps a timestamp
-abbrev pub paced_on : Sent32 → DecompressorContext
-paced_on t = (applied 2 2 paced (bringing t none16 none32)).context
+abbrev pub paced_on : Option ℕ → DecompressorContext
+paced_on t = (applied 2 2 paced (bringing t None None)).context
 
 -- the RTP header of a CU without F: sequence 9, timestamp 500
 abbrev pub whole : RtpHeader
 whole = record { ssrc = 9; rtp = (voice 5 9 500).rtp; csrc = no_list; marker = false }
 
 -- in place of that CU one without F, and perhaps differences of ID and timestamp
-abbrev pub replaced : Sent16 → Sent32 → DecompressorContext
-replaced did dts = (applied_whole 2 2 paced (bringing none32 did dts) whole).context
+abbrev pub replaced : (did dts : Option ℕ) → DecompressorContext
+replaced did dts = (applied_whole 2 2 paced (bringing None did dts) whole).context
 
 -- the timestamp after a CR of link sequence q that brings nothing
 abbrev pub timestamp_at : (q : ℕ) → DecompressorContext → ℕ
@@ -108,18 +99,18 @@ timestamp_at q c = (applied 2 q c nothing).context.rtp.timestamp
 
 pub record Compressing : Type 0 where
   -- rule 11.2: 20 after 10 and 20 is on pattern and still sent, for it was off pattern inside the run (rule 12.1)
-  pub jumped-parts : (step_of 1 (voice 3 9 20) jumped).parts.timestamp ≡ sent_if32 true 20
-  pub jumped-delta : (step_of 1 (voice 3 9 20) jumped).parts.dts ≡ sent_if32 false 0
+  pub jumped-parts : (step_of 1 (voice 3 9 20) jumped).parts.timestamp ≡ Some 20
+  pub jumped-delta : (step_of 1 (voice 3 9 20) jumped).parts.dts ≡ None
   -- rule 8.8: nothing is due
   pub steady-kind : (step_of 0 (voice 4 10 1010) steady).kind ≡ compressed_rtp
   -- rule 12.1: 3010 after 1000 keeps the delta 10, and is sent whole
   pub silence-delta : (after 0 steady (voice 4 10 3010)).deltas.timestamp ≡ 10
-  pub silence-parts : (step_of 0 (voice 4 10 3010) steady).parts.timestamp ≡ sent_if32 true 3010
+  pub silence-parts : (step_of 0 (voice 4 10 3010) steady).parts.timestamp ≡ Some 3010
   -- rule 8.6: ID 5 then 5, at a context's second packet: off pattern, sent whole, and no delta
-  pub second_parts : (step_of 0 (voice 5 8 10) (opened 0 (voice 5 7 10))).parts.id ≡ sent_if16 true 5
-  pub second-delta : (step_of 0 (voice 5 8 10) (opened 0 (voice 5 7 10))).parts.did ≡ sent_if16 false 0
+  pub second_parts : (step_of 0 (voice 5 8 10) (opened 0 (voice 5 7 10))).parts.id ≡ Some 5
+  pub second-delta : (step_of 0 (voice 5 8 10) (opened 0 (voice 5 7 10))).parts.did ≡ None
   -- rule 8.6: a third 5 has it
-  pub third-delta : (step_of 0 (voice 5 9 10) (after 0 (opened 0 (voice 5 7 10)) (voice 5 8 10))).parts.did ≡ sent_if16 true 0
+  pub third-delta : (step_of 0 (voice 5 9 10) (after 0 (opened 0 (voice 5 7 10)) (voice 5 8 10))).parts.did ≡ Some 0
   -- rule 8.3: another TOS starts a run, its generation one higher
   pub changed-kind : (step_of 0 (packet 1 4 10 1010) steady).kind ≡ full_header
   pub changed-generation : (step_of 0 (packet 1 4 10 1010) steady).link.generation ≡ 1
@@ -155,19 +146,19 @@ pub record Rebuilding : Type 0 where
 -- rule 7.7: a CU without F, where the deltas were 3 and 160
 pub record Replacing : Type 0 where
   -- without dT: the timestamp is that of the RTP header, and stands still from then on, over a gap too
-  pub unsent : (replaced none16 none32).rtp.timestamp ≡ 500
-  pub unsent-stands : timestamp_at 3 (replaced none16 none32) ≡ 500
-  pub unsent-gap : timestamp_at 5 (replaced none16 none32) ≡ 500
-  pub unsent-deltas : (replaced none16 none32).deltas ≡ record { id = 3; timestamp = 0 }
+  pub unsent : (replaced None None).rtp.timestamp ≡ 500
+  pub unsent-stands : timestamp_at 3 (replaced None None) ≡ 500
+  pub unsent-gap : timestamp_at 5 (replaced None None) ≡ 500
+  pub unsent-deltas : (replaced None None).deltas ≡ record { id = 3; timestamp = 0 }
   -- with dT: it goes on by the difference that came, here 80
-  pub sent : (replaced none16 (sent_if32 true 80)).rtp.timestamp ≡ 500
-  pub sent-goes : timestamp_at 3 (replaced none16 (sent_if32 true 80)) ≡ 580
-  pub sent-deltas : (replaced none16 (sent_if32 true 80)).deltas ≡ record { id = 3; timestamp = 80 }
+  pub sent : (replaced None (Some 80)).rtp.timestamp ≡ 500
+  pub sent-goes : timestamp_at 3 (replaced None (Some 80)) ≡ 580
+  pub sent-deltas : (replaced None (Some 80)).deltas ≡ record { id = 3; timestamp = 80 }
   -- with dI alone: that says nothing of the timestamp
-  pub sent-id : (replaced (sent_if16 true 7) none32).deltas ≡ record { id = 7; timestamp = 0 }
+  pub sent-id : (replaced (Some 7) None).deltas ≡ record { id = 7; timestamp = 0 }
   -- with F and without dT the delta stays, whether the timestamp comes whole or not
-  pub values-goes : timestamp_at 3 (paced_on (sent_if32 true 500)) ≡ 660
-  pub values-unsent : timestamp_at 3 (paced_on none32) ≡ 490
+  pub values-goes : timestamp_at 3 (paced_on (Some 500)) ≡ 660
+  pub values-unsent : timestamp_at 3 (paced_on None) ≡ 490
   -- rule 3.1: a gap of 4 is refused, and leaves all but the status
   pub refused : (applied_whole 2 5 paced nothing whole).number ≡ 9
   pub refused-deltas : (applied_whole 2 5 paced nothing whole).context.deltas ≡ record { id = 3; timestamp = 160 }

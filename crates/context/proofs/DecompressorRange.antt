@@ -16,7 +16,7 @@ use Rattle.context.specs.Sound.{empty_decompressor}
 use Rattle.context.specs.Ranges.{ContextInRange}
 use Rattle.context.specs.declared.kept.Link.{Link}
 use Rattle.context.specs.declared.decompressor.DecompressorContext.{DecompressorContext}
-use Rattle.context.proofs.Tests.{cond_both}
+use Rattle.context.proofs.Tests.{cond_both, unwrap_or-both}
 use Rattle.context.proofs.FieldLaws.{moved_on-fits}
 use Rattle.context.proofs.WholeLaws.{whole-delta}
 
@@ -59,16 +59,16 @@ module _ {carried : Bool} (g q : ℕ) (c : DecompressorContext) (p : Parts) (f :
     tos = r.ip.tos;
     ttl = r.ip.ttl;
     flags = r.ip.flags;
-    id = moved_on-fits 16 g c.ip.id c.deltas.id p.did.sent p.did.value p.id.sent p.id.value f.id.fits;
+    id = moved_on-fits 16 g c.ip.id c.deltas.id p.did p.id f.id;
   }
 
   range-did : (deltas_held c.deltas p).id < 2 ^ 16
   unfolding deltas_held
-  range-did = cond_both (λ (x : ℕ). x < 2 ^ 16) p.did.sent p.did.value c.deltas.id f.did.fits r.did
+  range-did = unwrap_or-both (λ (x : ℕ). x < 2 ^ 16) p.did c.deltas.id f.did r.did
 
   range-dts : (deltas_held c.deltas p).timestamp < 2 ^ 32
   unfolding deltas_held
-  range-dts = cond_both (λ (x : ℕ). x < 2 ^ 32) p.dts.sent p.dts.value c.deltas.timestamp f.dts.fits r.dts
+  range-dts = unwrap_or-both (λ (x : ℕ). x < 2 ^ 32) p.dts c.deltas.timestamp f.dts r.dts
 
   range-advanced : ContextInRange (advanced g q c p)
   unfolding advanced rtp_after
@@ -76,11 +76,9 @@ module _ {carried : Bool} (g q : ℕ) (c : DecompressorContext) (p : Parts) (f :
     flow = r.flow;
     ip = range-ip_after;
     rtp = record {
-      payload = cond_both (λ (x : ℕ). x < 128) p.payload.sent _ _ f.payload.fits r.rtp.payload;
-      sequence = moved_on-fits 16 g c.rtp.sequence 1 p.dsn.sent p.dsn.value p.sequence.sent p.sequence.value
-          f.sequence.fits;
-      timestamp = moved_on-fits 32 g c.rtp.timestamp c.deltas.timestamp p.dts.sent p.dts.value p.timestamp.sent
-          p.timestamp.value f.timestamp.fits;
+      payload = unwrap_or-both (λ (x : ℕ). x < 128) p.payload c.rtp.payload f.payload r.rtp.payload;
+      sequence = moved_on-fits 16 g c.rtp.sequence 1 p.dsn p.sequence f.sequence;
+      timestamp = moved_on-fits 32 g c.rtp.timestamp c.deltas.timestamp p.dts p.timestamp f.timestamp;
     };
     csrc = cond_both ListInRange p.listed p.csrc c.csrc f.list r.csrc;
     did = range-did;
@@ -104,7 +102,7 @@ module _ {carried : Bool} (g q : ℕ) (c : DecompressorContext) (p : Parts) (f :
     dts = omega (
       arith,
       whole-delta g q c p w,
-      cond_both (λ (x : ℕ). x < 2 ^ 32) p.dts.sent p.dts.value 0 f.dts.fits (omega arith),
+      unwrap_or-both (λ (x : ℕ). x < 2 ^ 32) p.dts 0 f.dts (omega arith),
     );
   }
 

@@ -1,7 +1,7 @@
 -- Iarwennol. Soundness at the decompressor.
 -- Every step leaves a sound context for a sound one. Assume nothing.
 -- Used by the soundness of the decompressor's table after each call.
-use Prim.Native.Nat.{ℕ, ◌≤◌}
+use Prim.Native.Nat.{ℕ, ◌≤◌, ◌<◌}
 use mathlib.Core.Path.{◌≡◌, refl, sym, ap, ◌∙◌}
 use mathlib.Core.Bool.{Bool, true, false, cond, not, ◌&&◌, false≢true, and-eq-true_iff}
 use native.Mathlib.Omega.{arith}
@@ -21,7 +21,7 @@ use Rattle.context.specs.declared.kept.Link.{Link}
 use Rattle.context.specs.declared.decompressor.Status.{Status}
 use Rattle.context.specs.declared.decompressor.Status.TheVariants.{Empty, Live, Broken}
 use Rattle.context.specs.declared.decompressor.DecompressorContext.{DecompressorContext}
-use Rattle.context.proofs.Tests.{cond_both}
+use Rattle.context.proofs.Tests.{cond_both, unwrap_or-both}
 use Rattle.context.proofs.WholeLaws.{whole-delta}
 use Rattle.context.proofs.SoundFacts.{has_code-zero, sound_list-made, sound_link-bounds}
 use Rattle.context.proofs.SoundFacts.{FilledBounds, filled_sound-bounds, bounds-filled_sound}
@@ -71,9 +71,10 @@ sound-advanced g q c p small a u s =
     let b = sound_decompressor-bounds c u s in
     bounds-sound_decompressor (advanced g q c p) u (live-filled c u s).0 (record {
       flags = b.flags;
-      payload = cond_both (λ (x : ℕ). x ≤ 127) p.payload.sent _ _ (omega (arith, a.payload)) b.payload;
+      payload =
+          let x = unwrap_or-both (λ (x : ℕ). x < 128) p.payload c.rtp.payload a.payload (omega (arith, b.payload)) in omega arith;
       list = cond_both (λ (x : Csrc). sound_list x ≡ true) p.listed _ _ (sound_list-made p.csrc a.list) b.list;
-      coded = cond_both (λ (x : ℕ). has_code 32 x ≡ true) p.dts.sent _ _ a.coded b.coded;
+      coded = unwrap_or-both (λ (x : ℕ). has_code 32 x ≡ true) p.dts _ a.coded b.coded;
       link = record { sequence = small; generation = b.link.generation };
     })
 
@@ -87,7 +88,7 @@ sound-whole g q c p w small a t u s =
       payload = omega (arith, t.payload);
       list = sound_list-made w.csrc t.list;
       coded = ap (has_code 32) (whole-delta g q c p w)
-          ∙ cond_both (λ (x : ℕ). has_code 32 x ≡ true) p.dts.sent _ _ a.coded has_code-zero;
+          ∙ unwrap_or-both (λ (x : ℕ). has_code 32 x ≡ true) p.dts _ a.coded has_code-zero;
       link = record { sequence = small; generation = b.link.generation };
     })
 

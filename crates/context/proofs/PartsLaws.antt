@@ -6,9 +6,11 @@ use mathlib.Core.Path.{◌≡◌, refl, sym, ◌∙◌}
 use mathlib.Core.Bool.{Bool, true, false, cond, not, true≢false}
 use native.Mathlib.Omega.{arith}
 use lib.Dec.{eqb, ltb}
+use Rattle.std.specs.Prelude.{None, IfSome}
+use Rattle.std.specs.Bool.{then_some}
 use Rattle.codes.specs.Difference.{has_code}
 use Rattle.packet.specs.Csrc.{no_list}
-use Rattle.packet.specs.Ranges.{ListInRange, HeaderInRange, Sendable, PartsFit}
+use Rattle.packet.specs.Ranges.{ListInRange, HeaderInRange, PartsFit}
 use Rattle.packet.specs.RangesLaws.{range-no_list}
 use Rattle.packet.specs.declared.csrc.Csrc.{Csrc}
 use Rattle.packet.specs.declared.header.Header.{Header}
@@ -25,14 +27,17 @@ use Rattle.context.proofs.Tests.{cond-when, cond_both, adopts_timestamp-coded, N
 use Rattle.context.proofs.Begun.{ready_held}
 use Rattle.context.proofs.Lost.{moved-held}
 use Rattle.context.proofs.Arrives.{checksum-back}
-use Rattle.context.proofs.SoundFacts.{UsedBounds, has_code-zero, bounds-sound_link}
+use Rattle.context.proofs.SoundFacts.{UsedBounds, bounds-sound_link}
 use Rattle.context.proofs.CompressorSound.{ready-bounds, sound_compressor-bounds}
 
----- Sendable
+---- then_some
 
-sendable-if : (w : ℕ) (due : Bool) (x : ℕ) → 0 < 2 ^ w → x < 2 ^ w → Sendable w due (cond due x 0)
-sendable-if w true x z h = record { fits = h; blank = refl }
-sendable-if w false x z h = record { fits = z; blank = refl }
+sent-if : {A : Type 0} (P : A → Type 0) (due : Bool) (x : A) → P x → IfSome (then_some due x) P
+sent-if P true x h = h
+sent-if P false x h = tt
+
+unsent : {A : Type 0} (due : Bool) (x : A) → due ≡ false → then_some due x ≡ None
+unsent due x e = rw e
 
 ---- list_if
 
@@ -55,16 +60,15 @@ module _ (n : ℕ) (h : Header) (c : CompressorContext) (fits : HeaderInRange h)
       let k : Held (moved n h c (judged h c)) = moved-held n h c fits held in
       record {
         checksum = record { fits = fits.checksum; blank = checksum-back (eqb h.checksum 0) h.checksum refl };
-        id = sendable-if 16 d.id h.ip.id (omega arith) fits.ip.id;
-        sequence = sendable-if 16 d.sequence h.rtp.sequence (omega arith) fits.rtp.sequence;
-        timestamp = sendable-if 32 d.timestamp h.rtp.timestamp (omega arith) fits.rtp.timestamp;
-        payload = sendable-if 7 d.payload h.rtp.payload (omega arith) fits.rtp.payload;
-        did = sendable-if 16 d.did (moved n h c (judged h c)).deltas.id (omega arith) k.did;
-        dsn = sendable-if 16 false 0 (omega arith) (omega arith);
-        dts = sendable-if 32 d.dts (moved n h c (judged h c)).deltas.timestamp (omega arith) k.dts;
-        coded = λ e. cond_both (λ (x : ℕ). has_code 32 x ≡ true) d.dts _ 0
-            (cond-when (λ (x : ℕ). has_code 32 x ≡ true) (adopts_timestamp h c) _ _ (adopts_timestamp-coded h c) bounds.coded)
-            has_code-zero;
+        id = sent-if (λ v. v < 2 ^ 16) d.id h.ip.id fits.ip.id;
+        sequence = sent-if (λ v. v < 2 ^ 16) d.sequence h.rtp.sequence fits.rtp.sequence;
+        timestamp = sent-if (λ v. v < 2 ^ 32) d.timestamp h.rtp.timestamp fits.rtp.timestamp;
+        payload = sent-if (λ v. v < 2 ^ 7) d.payload h.rtp.payload fits.rtp.payload;
+        did = sent-if (λ v. v < 2 ^ 16) d.did (moved n h c (judged h c)).deltas.id k.did;
+        dsn = tt;
+        dts = sent-if (λ v. v < 2 ^ 32) d.dts (moved n h c (judged h c)).deltas.timestamp k.dts;
+        coded = sent-if (λ v. has_code 32 v ≡ true) d.dts (moved n h c (judged h c)).deltas.timestamp
+            (cond-when (λ v. has_code 32 v ≡ true) (adopts_timestamp h c) _ _ (adopts_timestamp-coded h c) bounds.coded);
         list = list-range (any_due d) h.csrc fits.csrc;
       }
 
@@ -72,13 +76,13 @@ module _ (n : ℕ) (h : Header) (c : CompressorContext) (fits : HeaderInRange h)
 
 -- parts with nothing but the marker and the checksum, as a CR of the compressor has them
 pub record Bare (p : Parts) : Type 0 where
-  pub id : p.id.sent ≡ false
-  pub sequence : p.sequence.sent ≡ false
-  pub timestamp : p.timestamp.sent ≡ false
-  pub payload : p.payload.sent ≡ false
-  pub did : p.did.sent ≡ false
-  pub dsn : p.dsn.sent ≡ false
-  pub dts : p.dts.sent ≡ false
+  pub id : p.id ≡ None
+  pub sequence : p.sequence ≡ None
+  pub timestamp : p.timestamp ≡ None
+  pub payload : p.payload ≡ None
+  pub did : p.did ≡ None
+  pub dsn : p.dsn ≡ None
+  pub dts : p.dts ≡ None
   pub listed : p.listed ≡ false
 
 -- the link types of a packet on a context
@@ -145,7 +149,7 @@ module _ (n : ℕ) (h : Header) (s : CompressorContext) where
   cu-listed e = kind-udp (ltb 0 (reset (begun n h s)).due.full)
       (any_due (due_now (reset (begun n h s)).due (judged h (reset (begun n h s))))) e
 
-  pub step-dsn : (step_of n h s).parts.dsn.sent ≡ false
+  pub step-dsn : (step_of n h s).parts.dsn ≡ None
   unfolding step_of sent_with parts_of
   step-dsn = refl
 
@@ -157,13 +161,12 @@ module _ (n : ℕ) (h : Header) (s : CompressorContext) where
       let none : any_due now ≡ false = kind-rtp (ltb 0 (reset (begun n h s)).due.full) (any_due now) e in
       let d : NoneDue now = any_due-false now none in
       record {
-        id = d.id;
-        sequence = d.sequence;
-        timestamp = d.timestamp;
-        payload = d.payload;
-        did = d.did;
+        id = unsent now.id _ d.id;
+        sequence = unsent now.sequence _ d.sequence;
+        timestamp = unsent now.timestamp _ d.timestamp;
+        payload = unsent now.payload _ d.payload;
+        did = unsent now.did _ d.did;
         dsn = refl;
-        dts =
-            d.dts;
+        dts = unsent now.dts _ d.dts;
         listed = none;
       }

@@ -5,6 +5,7 @@ use Prim.Native.Nat.{ℕ, suc, ◌+◌, ◌%◌, ◌^◌, ◌≤◌, ◌<◌}
 use mathlib.Core.Path.{◌≡◌}
 use mathlib.Core.Bool.{Bool, false, cond}
 use lib.Dec.{eqb}
+use Rattle.codes.specs.Difference.{sum}
 use Rattle.packet.specs.declared.header.Header.{Header}
 use Rattle.packet.specs.declared.parts.Parts.{Parts}
 use Rattle.context.specs.Field.{steps}
@@ -56,7 +57,7 @@ timestamp_seen v = record { last = v.rtp.timestamp; delta = v.deltas.timestamp }
 -- a field of width w is in step, unless what brings it into step is due in more packets than may still be lost
 pub record Near (w n j : ℕ) (v : Seen) (t : Track) : Type 0 where
   pub delta : t.delta_due + j ≤ n → v.delta ≡ t.delta
-  pub value : t.due + j ≤ n → (v.delta ≡ t.delta) × (t.last ≡ steps w v.last v.delta j)
+  pub value : t.due + j ≤ n → (v.delta ≡ t.delta) × (t.last ≡ steps (sum w) v.last v.delta j)
 
 ---- The sender alone
 

@@ -7,6 +7,7 @@ use mathlib.Core.Bool.{Bool, true, false, cond, ◌&&◌, ◌||◌, true≢false
 use native.Mathlib.Omega.{arith}
 use lib.Dec.{eqb, ltb}
 use borrow.Author.Tests.{eqb-true, ne_eqb, ltb-false}
+use Rattle.std.specs.Prelude.{Option, Some, None, IfSome, unwrap_or}
 use Rattle.codes.specs.Difference.{has_code}
 use Rattle.packet.proofs.Chain.{all-of-eight}
 use Rattle.packet.specs.declared.header.Header.{Header}
@@ -25,6 +26,13 @@ cond-when P false x y f g = g
 
 pub cond_both : {A : Type 0} (P : A → Type 0) (b : Bool) (x y : A) → P x → P y → P (cond b x y)
 cond_both P b x y h k = cond-when P b x y (λ e. h) k
+
+---- unwrap_or
+
+-- what holds of a field that may be sent, and of what it is without it, holds of the field after it
+pub unwrap_or-both : {A : Type 0} (P : A → Type 0) (o : Option A) (y : A) → IfSome o P → P y → P (unwrap_or o y)
+unwrap_or-both P (Some x) y h k = h
+unwrap_or-both P None y h k = k
 
 ---- _||_
 

@@ -1,11 +1,11 @@
 -- Iarwennol. The compressor, one context.
 -- Its rules in the order in which they act on a packet (rules 8, 9.4, 9.5); n is the repeats.
 -- Used by compress, whose code equals them, and by the relation between the ends.
-use Rattle.std.specs.Prelude.{ℕ, ◌+◌, Bool, true, false, cond, not, ◌&&◌, ◌||◌, eqb, ltb}
+use Rattle.std.specs.Prelude.{ℕ, ◌+◌, Bool, true, false, cond, not, ◌&&◌, ◌||◌, eqb, ltb, None}
+use Rattle.std.specs.Bool.{then_some}
 use Rattle.codes.specs.Difference.{difference, has_code}
 pub use Rattle.packet.specs.Types.{full_header, compressed_udp, compressed_rtp}
 use Rattle.packet.specs.Csrc.{same_list, no_list}
-use Rattle.packet.specs.Sent.{sent_if8, sent_if16, sent_if32}
 use Rattle.packet.specs.declared.csrc.Csrc.{Csrc}
 use Rattle.packet.specs.declared.header.Header.{Header}
 use Rattle.packet.specs.declared.parts.Parts.{Parts}
@@ -205,13 +205,13 @@ unfoldable pub parts_of : Header → DueNow → Bool → Deltas → Parts
 parts_of h d any kept = record {
   marker = h.marker;
   checksum = h.checksum;
-  id = sent_if16 d.id h.ip.id;
-  sequence = sent_if16 d.sequence h.rtp.sequence;
-  timestamp = sent_if32 d.timestamp h.rtp.timestamp;
-  payload = sent_if8 d.payload h.rtp.payload;
-  did = sent_if16 d.did kept.id;
-  dsn = sent_if16 false 0;
-  dts = sent_if32 d.dts kept.timestamp;
+  id = then_some d.id h.ip.id;
+  sequence = then_some d.sequence h.rtp.sequence;
+  timestamp = then_some d.timestamp h.rtp.timestamp;
+  payload = then_some d.payload h.rtp.payload;
+  did = then_some d.did kept.id;
+  dsn = None;
+  dts = then_some d.dts kept.timestamp;
   listed = any;
   csrc = list_if any h.csrc;
 }

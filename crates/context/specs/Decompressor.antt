@@ -1,7 +1,8 @@
 -- Iarwennol. The decompressor, one context.
 -- Its rules in their order (rules 7, 3.1); n is the repeats, g the gap, q a packet's link sequence.
 -- Used by decompress, whose code equals them, and by the relation between the ends.
-use Rattle.std.specs.Prelude.{ℕ, ◌+◌, Bool, true, cond, not, ◌||◌, eqb, ltb}
+use Rattle.std.specs.Prelude.{ℕ, ◌+◌, Bool, true, cond, not, ◌||◌, eqb, ltb, unwrap_or}
+use Rattle.codes.specs.Difference.{sum}
 use Rattle.codes.specs.Numbers.{out_of_step}
 use Rattle.packet.specs.declared.header.Header.{Header}
 use Rattle.packet.specs.declared.header.RtpHeader.{RtpHeader}
@@ -55,7 +56,7 @@ ip_after g c p = record {
   tos = c.ip.tos;
   ttl = c.ip.ttl;
   flags = c.ip.flags;
-  id = moved_on 16 g c.ip.id c.deltas.id p.did.sent p.did.value p.id.sent p.id.value;
+  id = moved_on (sum 16) g c.ip.id c.deltas.id p.did p.id;
 }
 
 -- rules 7.3, 7.4: sequence, 1 a step, timestamp and payload type
@@ -63,17 +64,16 @@ unfoldable pub rtp_after : ℕ → DecompressorContext → Parts → Rtp
 rtp_after g c p = record {
   padding = c.rtp.padding;
   extension = c.rtp.extension;
-  payload = cond p.payload.sent p.payload.value c.rtp.payload;
-  sequence = moved_on 16 g c.rtp.sequence 1 p.dsn.sent p.dsn.value p.sequence.sent p.sequence.value;
-  timestamp = moved_on 32 g c.rtp.timestamp c.deltas.timestamp p.dts.sent p.dts.value p.timestamp.sent
-      p.timestamp.value;
+  payload = unwrap_or p.payload c.rtp.payload;
+  sequence = moved_on (sum 16) g c.rtp.sequence 1 p.dsn p.sequence;
+  timestamp = moved_on (sum 32) g c.rtp.timestamp c.deltas.timestamp p.dts p.timestamp;
 }
 
 -- rule 7.5: a difference that came is the delta from now on
 unfoldable pub deltas_held : Deltas → Parts → Deltas
 deltas_held kept p = record {
-  id = cond p.did.sent p.did.value kept.id;
-  timestamp = cond p.dts.sent p.dts.value kept.timestamp;
+  id = unwrap_or p.did kept.id;
+  timestamp = unwrap_or p.dts kept.timestamp;
 }
 
 -- rule 7.7: the delta of the timestamp forgotten

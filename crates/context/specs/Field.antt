@@ -1,8 +1,8 @@
 -- Iarwennol. One changing field, and the small numbers of a context.
--- Each rule once: w is the width of the field, n the repeats.
+-- Each rule once: w is the width of the field, plus the sum of that width, n the repeats.
 -- Used by Compressor and Decompressor, and by the code of both ends.
-use Rattle.std.specs.Prelude.{ℕ, zero, suc, ◌+◌, ◌-◌, ◌%◌, Bool, cond, not, ◌||◌, eqb, ltb}
-use Rattle.codes.specs.Difference.{difference, sum}
+use Rattle.std.specs.Prelude.{ℕ, zero, suc, ◌+◌, ◌-◌, ◌%◌, Bool, cond, not, ◌||◌, eqb, ltb, Option, unwrap_or}
+use Rattle.codes.specs.Difference.{difference}
 
 -- rule 8.1: the link sequence after a packet
 unfoldable pub next_sequence : ℕ → ℕ
@@ -28,12 +28,12 @@ is_due fresh due = fresh || ltb 0 due
 unfoldable pub gap : (last q : ℕ) → ℕ
 gap last q = (q % 16 + 16 - last % 16) % 16
 
--- rule 7.3: a number moved on by g steps of d
-abbrev pub steps : (w a d g : ℕ) → ℕ
-steps w a d zero = a
-steps w a d (suc g) = sum w (steps w a d g) d
+-- rule 7.3: a field moved on by g steps of d
+abbrev pub steps : {A : Type 0} → (A → A → A) → (a d : A) → (g : ℕ) → A
+steps plus a d zero = a
+steps plus a d (suc g) = plus (steps plus a d g) d
 
 -- rules 7.3, 7.4: a field after a gap of g. Sent whole, it is taken; else it takes g - 1 steps of the delta, and as its last
 -- step the difference that was sent, or the delta
-unfoldable pub moved_on : (w g last delta : ℕ) (differs : Bool) (d : ℕ) (whole : Bool) (x : ℕ) → ℕ
-moved_on w g last delta differs d whole x = cond whole x (sum w (steps w last delta (g - 1)) (cond differs d delta))
+unfoldable pub moved_on : {A : Type 0} → (A → A → A) → (g : ℕ) → (last delta : A) → (d whole : Option A) → A
+moved_on plus g last delta d whole = unwrap_or whole (plus (steps plus last delta (g - 1)) (unwrap_or d delta))

@@ -1,7 +1,7 @@
 use crate::kept::{Deltas, Link};
 use packet::csrc::Csrc;
 use packet::header::{Flow, Ip, Rtp};
-use packet::refusal::Verdict;
+use packet::refusal::Refusal;
 
 // A broken context takes nothing but a full header.
 #[derive(Clone, Copy)]
@@ -32,7 +32,7 @@ pub struct DecompressorContext {
 // What becomes of a CU or CR on a live context, by how many steps it is on, and the context after it.
 #[derive(Clone, Copy)]
 pub struct Applied {
-    pub verdict: Verdict,
+    pub verdict: Result<(), Refusal>,
     pub gap: u8,
     pub context: DecompressorContext,
 }

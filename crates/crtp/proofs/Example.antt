@@ -32,7 +32,7 @@ use Rattle.context.specs.Sound.{sound_list, sound_link, sound_due, zero_list, us
 use Rattle.context.specs.Sound.{sound_compressor, filled_sound, unfilled_sound, sound_decompressor_by, sound_decompressor}
 use Rattle.context.specs.Sound.{empty_compressor, empty_decompressor}
 use Rattle.decompressor.specs.Receive.{receive_full, receive_old, receive_compressed, receive_kind, receive_by}
-use Rattle.fields.specs.Next.{next, read_payload, next_byte, next_word, next_long, next_delta16, next_delta32, next_payload}
+use Rattle.fields.specs.Next.{next_as, read_payload, next_byte, next_word, next_long, next_delta16, next_delta32, next_payload}
 use Rattle.headers.specs.Checksum.{ip_checksum_of, ip_checksum}
 use Rattle.headers.specs.UdpChecksum.{udp_checksum_of, udp_right}
 use Rattle.headers.specs.Compressible.{fixed_form, compressible}
@@ -259,7 +259,7 @@ unfolding compressing.sound_of decompressing.sound_of plus code_of difference su
     gap_judged ip_after rtp_after deltas_held advanced broke settled applied rebuilt next_sequence
     next_generation off_pattern counted is_due gap moved_on sound_list sound_link sound_due zero_list used_sound unused_sound
     sound_compressor_by sound_compressor filled_sound unfilled_sound sound_decompressor_by sound_decompressor empty_compressor
-    empty_decompressor receive_full receive_old receive_compressed receive_kind receive_by next read_payload next_byte next_word
+    empty_decompressor receive_full receive_old receive_compressed receive_kind receive_by next_as read_payload next_byte next_word
     next_long
     next_delta16 next_delta32 next_payload ip_checksum_of ip_checksum fixed_form compressible rtp_at flow_of ip_of header_of
     ip_front ip_back

@@ -18,7 +18,7 @@ use Rattle.context.specs.Field.{next_sequence, next_generation, off_pattern, cou
 use Rattle.context.specs.Sound.{sound_list, sound_link, sound_due, zero_list, used_sound, unused_sound, sound_compressor_by}
 use Rattle.context.specs.Sound.{sound_compressor, filled_sound, unfilled_sound, sound_decompressor_by, sound_decompressor}
 use Rattle.context.specs.Sound.{empty_compressor, empty_decompressor}
-use Rattle.fields.specs.Next.{next, read_version, read_payload, next_version, next_byte, next_word, next_long, next_delta16}
+use Rattle.fields.specs.Next.{next_as, read_version, read_payload, next_version, next_byte, next_word, next_long, next_delta16}
 use Rattle.fields.specs.Next.{next_delta32}
 use Rattle.fields.specs.Next.{next_payload}
 use Rattle.headers.specs.Checksum.{ip_checksum_of, ip_checksum}
@@ -223,7 +223,7 @@ unfolding cases compressing.open_of decompressing.open_of settings.open_of compr
     gap_judged ip_after rtp_after deltas_held advanced advanced_whole broke settled applied applied_whole rebuilt next_sequence
     next_generation off_pattern counted is_due gap moved_on sound_list sound_link sound_due zero_list used_sound unused_sound
     sound_compressor_by sound_compressor filled_sound unfilled_sound sound_decompressor_by sound_decompressor empty_compressor
-    empty_decompressor receive_full receive_old receive_compressed receive_kind receive_by next read_payload next_byte next_word
+    empty_decompressor receive_full receive_old receive_compressed receive_kind receive_by next_as read_payload next_byte next_word
     next_long
     next_delta16 next_delta32 next_payload ip_checksum_of ip_checksum fixed_form compressible rtp_at flow_of ip_of header_of
     ip_front ip_back

@@ -10,7 +10,7 @@ pub use Rattle.settings.specs.declared.Settings.{Settings}
 pub use Rattle.planes.specs.Planes.{Lent, lent}
 -- the compressor's calls
 pub use Rattle.compressor.specs.declared.table.Table.{Table as CompressorTable}
-pub use Rattle.compressor.specs.declared.answer.Outcome.{Outcome as CompressorOutcome}
+pub use Rattle.compressor.specs.Answer.{Outcome as CompressorOutcome}
 pub use Rattle.compressor_table.specs.Layout.{sized as sized_compressor, table_of as compressor_of}
 pub use Rattle.compressor_table.specs.Calls.{Gives as CompressorGives, open_lent as open_compressor_lent}
 pub use Rattle.compressor_table.specs.CallsLaws.{open_lent-says as open_compressor-says}
@@ -21,7 +21,7 @@ pub use Rattle.compressor.specs.Request.{request_of}
 pub use Rattle.compressor.proofs.TypeLaws.{send_of-type}
 -- the decompressor's
 pub use Rattle.decompressor.specs.declared.table.Table.{Table as DecompressorTable}
-pub use Rattle.decompressor.specs.declared.answer.Outcome.{Outcome as DecompressorOutcome}
+pub use Rattle.decompressor.specs.Answer.{Outcome as DecompressorOutcome}
 pub use Rattle.decompressor_table.specs.Layout.{sized as sized_decompressor, table_of as decompressor_of}
 pub use Rattle.decompressor_table.specs.Calls.{Gives as DecompressorGives, open_lent as open_decompressor_lent}
 pub use Rattle.decompressor_table.specs.CallsLaws.{open_lent-says as open_decompressor-says}

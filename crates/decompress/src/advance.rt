@@ -1,52 +1,44 @@
 ghost use Rattle.std.specs.Prelude.{◌≡◌, cond, ◌≤◌};
 ghost use Rattle.context.specs.Decompressor.{ip_after, rtp_after, deltas_held, advanced, advanced_whole};
 
-use crate::steps;
+use crate::steps::move_on;
 use context::decompressor::DecompressorContext;
-use context::kept::Deltas;
+use context::kept::{Deltas, Link};
 use packet::csrc::Csrc;
-use packet::header::{Ip, Rtp, RtpHeader};
+use packet::header::{Flow, Ip, Rtp, RtpHeader};
 use packet::parts::Parts;
-use packet::sent::Sent16;
 
+#[tactic(auto, unfolding(context::specs::Decompressor::ip_after))]
 fn move_ip(g: u8, c: DecompressorContext, p: Parts) -> Ip
     requires { 1 ≤ g }
     ensures { result ≡ ip_after g c p }
 {
-    let did = p.did;
-    let whole = p.id;
-    let id = steps::move16(g, c.ip.id, c.deltas.id, did, whole);
-    let mut ip = c.ip;
-    ip.id = id;
-    ip
+    Ip {
+        id: move_on(g, c.ip.id, c.deltas.id, p.did, p.id),
+        ..c.ip
+    }
 }
 
+#[tactic(auto, unfolding(context::specs::Decompressor::rtp_after))]
 fn move_rtp(g: u8, c: DecompressorContext, p: Parts) -> Rtp
     requires { 1 ≤ g }
     ensures { result ≡ rtp_after g c p }
 {
-    let dsn = p.dsn;
-    let dts = p.dts;
-    let whole = p.sequence;
-    let late = p.timestamp;
-    let sequence = steps::move16(g, c.rtp.sequence, 1, dsn, whole);
-    let timestamp = steps::move32(g, c.rtp.timestamp, c.deltas.timestamp, dts, late);
-    let payload = packet::sent::or_kept8(p.payload.sent, p.payload.value, c.rtp.payload);
-    let mut rtp = c.rtp;
-    rtp.payload = payload;
-    rtp.sequence = sequence;
-    rtp.timestamp = timestamp;
-    rtp
+    Rtp {
+        payload: p.payload.unwrap_or(c.rtp.payload),
+        sequence: move_on(g, c.rtp.sequence, 1, p.dsn, p.sequence),
+        timestamp: move_on(g, c.rtp.timestamp, c.deltas.timestamp, p.dts, p.timestamp),
+        ..c.rtp
+    }
 }
 
+#[tactic(auto, unfolding(context::specs::Decompressor::deltas_held))]
 fn hold_deltas(kept: Deltas, p: Parts) -> Deltas
     ensures { result ≡ deltas_held kept p }
 {
-    let id = packet::sent::or_kept16(p.did.sent, p.did.value, kept.id);
-    let timestamp = packet::sent::or_kept32(p.dts.sent, p.dts.value, kept.timestamp);
     Deltas {
-        id: id,
-        timestamp: timestamp,
+        id: p.did.unwrap_or(kept.id),
+        timestamp: p.dts.unwrap_or(kept.timestamp),
     }
 }
 
@@ -73,25 +65,27 @@ fn take_list(listed: bool, new: Csrc, c: DecompressorContext) -> DecompressorCon
 }
 
 // The context after a CR, or a CU with F, that is g steps on.
+#[tactic(auto, unfolding(context::specs::Decompressor::advanced))]
 pub fn advance(g: u8, q: u8, c: DecompressorContext, p: Parts) -> DecompressorContext
     requires { 1 ≤ g }
     ensures { result ≡ advanced g q c p }
 {
-    let kept = c.deltas;
-    let new = p.csrc;
-    let ip = move_ip(g, c, p);
-    let rtp = move_rtp(g, c, p);
-    let deltas = hold_deltas(kept, p);
-    let mut d = c;
-    d.ip = ip;
-    d.rtp = rtp;
-    d.marker = p.marker;
-    d.deltas = deltas;
-    d.link.sequence = q;
-    take_list(p.listed, new, d)
+    let d = DecompressorContext {
+        ip: move_ip(g, c, p),
+        rtp: move_rtp(g, c, p),
+        marker: p.marker,
+        deltas: hold_deltas(c.deltas, p),
+        link: Link {
+            sequence: q,
+            ..c.link
+        },
+        ..c
+    };
+    take_list(p.listed, p.csrc, d)
 }
 
 // The context after a CU without F: the RTP header is taken whole, and the delta of the timestamp is the one sent, or 0.
+#[tactic(auto, unfolding(context::specs::Decompressor::advanced_whole))]
 pub fn advance_whole(
     g: u8,
     q: u8,
@@ -102,19 +96,24 @@ pub fn advance_whole(
     requires { 1 ≤ g }
     ensures { result ≡ advanced_whole g q c p w }
 {
-    let mut kept = c.deltas;
-    kept.timestamp = 0;
-    let rtp = w.rtp;
-    let csrc = w.csrc;
-    let ip = move_ip(g, c, p);
-    let deltas = hold_deltas(kept, p);
-    let mut d = c;
-    d.flow.ssrc = w.ssrc;
-    d.ip = ip;
-    d.rtp = rtp;
-    d.csrc = csrc;
-    d.marker = w.marker;
-    d.deltas = deltas;
-    d.link.sequence = q;
-    d
+    let kept = Deltas {
+        timestamp: 0,
+        ..c.deltas
+    };
+    DecompressorContext {
+        flow: Flow {
+            ssrc: w.ssrc,
+            ..c.flow
+        },
+        ip: move_ip(g, c, p),
+        rtp: w.rtp,
+        csrc: w.csrc,
+        marker: w.marker,
+        deltas: hold_deltas(kept, p),
+        link: Link {
+            sequence: q,
+            ..c.link
+        },
+        ..c
+    }
 }

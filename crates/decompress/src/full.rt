@@ -6,26 +6,23 @@ use context::kept::{Deltas, Link};
 use packet::header::Header;
 
 // A full header sets the whole context, whatever it held.
+#[tactic(auto, unfolding(context::specs::Decompressor::filled))]
 pub fn fill(h: Header, link: Link) -> DecompressorContext
     ensures { result ≡ filled h link }
 {
-    let flow = h.flow;
-    let ip = h.ip;
-    let rtp = h.rtp;
-    let csrc = h.csrc;
     DecompressorContext {
         status: Status::Live,
         filled: true,
-        flow: flow,
-        ip: ip,
-        rtp: rtp,
-        csrc: csrc,
+        flow: h.flow,
+        ip: h.ip,
+        rtp: h.rtp,
+        csrc: h.csrc,
         carried: h.checksum != 0,
         marker: h.marker,
         deltas: Deltas {
             id: 1,
             timestamp: 0,
         },
-        link: link,
+        link,
     }
 }

@@ -15,24 +15,20 @@ pub fn reads_checksum(c: DecompressorContext) -> bool
 fn checksum_of(c: DecompressorContext, sent: u16) -> u16
     ensures { result ≡ checksum_of c sent }
 {
-    packet::sent::or_kept16(reads_checksum(c), sent, 0)
+    if reads_checksum(c) { sent } else { 0 }
 }
 
 // The header at which a context stands, with the UDP checksum that was sent.
+#[tactic(auto, unfolding(context::specs::Decompressor::rebuilt))]
 pub fn rebuild(c: DecompressorContext, sent: u16) -> Header
     ensures { result ≡ rebuilt c sent }
 {
-    let flow = c.flow;
-    let ip = c.ip;
-    let rtp = c.rtp;
-    let csrc = c.csrc;
-    let checksum = checksum_of(c, sent);
     Header {
-        flow: flow,
-        ip: ip,
-        rtp: rtp,
-        csrc: csrc,
+        flow: c.flow,
+        ip: c.ip,
+        rtp: c.rtp,
+        csrc: c.csrc,
         marker: c.marker,
-        checksum: checksum,
+        checksum: checksum_of(c, sent),
     }
 }

@@ -15,7 +15,7 @@ use Rattle.headers.proofs.RoundTrip.{printed-header_of}
 use Rattle.links.specs.Fh.{fh_judged, fh_of}
 use Rattle.links.proofs.FhLaws.{fh_of-start, fh_of-within, fh_of-range}
 use Rattle.packet.specs.declared.refusal.Refusal.TheVariants.{NoRoom}
-use Rattle.decompressor.specs.declared.answer.Outcome.TheVariants.{Accepted, Refused}
+use Rattle.std.specs.Prelude.{Ok, Err}
 use Rattle.decompressor.specs.declared.table.Table.{Table}
 use Rattle.decompressor.specs.Answer.{said, delivered}
 use Rattle.decompressor.specs.Receive.{packet_of}
@@ -56,11 +56,11 @@ module _ (k : ℕ) (s : List ℕ) (a : AllBytes s) (e : fh_judged k s ≡ 0) whe
 module _ (before after : Table) (bytes output : List ℕ) where
   -- as a call says it
   pub said-no_room : length output < length bytes
-      → said (Refused NoRoom) before output ≡ delivered before after bytes output
+      → said (Err NoRoom) before output ≡ delivered before after bytes output
   said-no_room h = rw (lt-ltb (length output) (length bytes) h)
 
   pub said-accepted : (m : ℕ) (out : List ℕ) → length bytes ≤ length output → m ≡ length bytes → out ≡ fronted output bytes
-      → said (Accepted m) after out ≡ delivered before after bytes output
+      → said (Ok m) after out ≡ delivered before after bytes output
   said-accepted m out h e w = rw (le-ltb (length output) (length bytes) h)
       (λ j. record { number = 0; length = e j; output = w j; table = after })
 

@@ -40,8 +40,8 @@ use Rattle.context.specs.declared.kept.Link.{Link}
 use Rattle.context.specs.declared.decompressor.Status.{Status}
 use Rattle.context.specs.declared.decompressor.Status.TheVariants.{Empty, Live, Broken}
 use Rattle.context.specs.declared.decompressor.DecompressorContext.{DecompressorContext}
-use Rattle.packet.specs.declared.refusal.Verdict.{Verdict}
-use Rattle.packet.specs.declared.refusal.Verdict.TheVariants.{Accepted, Refused}
+use Rattle.packet.specs.Refusal.{Verdict}
+use Rattle.std.specs.Prelude.{Ok, Err}
 use Rattle.decompressor.specs.declared.old.OldForm.{OldForm}
 use Rattle.decompressor.specs.declared.old.OldForm.TheVariants.{Taken}
 use Rattle.decompressor.specs.declared.table.Table.{Table}
@@ -212,8 +212,8 @@ module _ (t : Table) (i : ℕ) (sound : Sound t) (among : i < t.settings.context
   -- o: what was found of the reading
   settle_read-way : (o : Verdict) (at : ℕ) (x : Effect) (sent : ℕ) (s : List ℕ) → Follows (context_at t i) x.context
       → Way t i (λ output. settle_read (record { verdict = o; cursor = record { at = at } }) x t i sent s output)
-  settle_read-way Accepted at x sent s f = settle-way x sent (drop at s) f
-  settle_read-way (Refused r) at x sent s f = refuses t (number_of r) (number_of-least r) same (λ output. refl)
+  settle_read-way (Ok u) at x sent s f = settle-way x sent (drop at s) f
+  settle_read-way (Err r) at x sent s f = refuses t (number_of r) (number_of-least r) same (λ output. refl)
 
   -- on a live context
   module _ (live : (context_at t i).status ≡ Live) where

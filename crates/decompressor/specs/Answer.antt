@@ -4,8 +4,9 @@ use Rattle.std.specs.Prelude.{ℕ, cond, List, ltb, length}
 use Rattle.codes.specs.Numbers.{no_room}
 use Rattle.octets.specs.Put.{fronted}
 use Rattle.packet.specs.Refusal as refusal
-use Rattle.decompressor.specs.declared.answer.Outcome.{Outcome}
-use Rattle.decompressor.specs.declared.answer.Outcome.TheVariants.{Accepted, Refused}
+use Rattle.std.specs.Prelude as std
+use Rattle.std.specs.Prelude.{Ok, Err}
+use Rattle.packet.specs.declared.refusal.Refusal.{Refusal}
 use Rattle.decompressor.specs.declared.table.Table.{Table}
 
 -- rule 3.1: number (0: accepted), length of what was given out, the output after the call, the table after the call
@@ -30,14 +31,18 @@ delivered before after bytes output = cond (ltb (length output) (length bytes)) 
 
 ---- number and values of each outcome
 
+-- what a call answers: the length of what was given out, or why it is refused
+abbrev pub Outcome : Type 0
+Outcome = std.Result ℕ Refusal
+
 -- rule 3.1
 abbrev pub number_of : Outcome → ℕ
-number_of (Accepted n) = 0
-number_of (Refused r) = refusal.number_of r
+number_of (Ok n) = 0
+number_of (Err r) = refusal.number_of r
 
 abbrev pub length_of : Outcome → ℕ
-length_of (Accepted n) = n
-length_of (Refused r) = 0
+length_of (Ok n) = n
+length_of (Err r) = 0
 
 -- what a call says that answered this, and left this table and this output
 abbrev pub said : Outcome → Table → (output : List ℕ) → Result

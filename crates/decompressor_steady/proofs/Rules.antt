@@ -6,6 +6,7 @@ use mathlib.Core.Bool.{Bool, true, false, and-eq-true_iff, false≢true}
 use native.Mathlib.Omega.{arith}
 use borrow.Author.Tests.{eqb-true}
 use lib.Dec.{eqb}
+use Rattle.std.specs.Prelude.{None}
 use Rattle.packet.specs.Csrc.{no_list}
 use Rattle.packet.specs.declared.parts.Parts.{Parts}
 use Rattle.context.specs.Field.{moved_on}
@@ -48,13 +49,13 @@ abbrev pub bare_parts : (marker : Bool) → (checksum : ℕ) → Parts
 bare_parts marker checksum = record {
   marker = marker;
   checksum = checksum;
-  id = record { sent = false; value = 0 };
-  sequence = record { sent = false; value = 0 };
-  timestamp = record { sent = false; value = 0 };
-  payload = record { sent = false; value = 0 };
-  did = record { sent = false; value = 0 };
-  dsn = record { sent = false; value = 0 };
-  dts = record { sent = false; value = 0 };
+  id = None;
+  sequence = None;
+  timestamp = None;
+  payload = None;
+  did = None;
+  dsn = None;
+  dts = None;
   listed = false;
   csrc = no_list;
 }

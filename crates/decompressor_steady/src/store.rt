@@ -5,7 +5,6 @@ ghost use Rattle.decompressor_steady.specs.Steady.{moved_to};
 
 use context::decompressor::DecompressorContext;
 use decompressor_table::layout::Layout;
-use decompressor_table::write::bit;
 
 // Another context at place i, of which only that differs which a CR without fields moves: five numbers are stored, and no row.
 pub fn put_moved(w: &mut [u32], h: &mut [u16], b: &mut [u8], i: usize, c: DecompressorContext)
@@ -13,10 +12,9 @@ pub fn put_moved(w: &mut [u32], h: &mut [u16], b: &mut [u8], i: usize, c: Decomp
     ensures { Puts (lent w.old h.old b.old) i c
         (lent w.new h.new b.new) }
 {
-    let marker = bit(c.marker);
     w[Layout::TIMESTAMP + i] = c.rtp.timestamp;
     h[Layout::ID + i] = c.ip.id;
     h[Layout::SEQUENCE + i] = c.rtp.sequence;
-    b[Layout::MARKER + i] = marker;
+    b[Layout::MARKER + i] = u8::from(c.marker);
     b[Layout::LINK_SEQUENCE + i] = c.link.sequence;
 }

@@ -2,7 +2,7 @@
 -- Used by the contract of every call of the decompressor.
 use Rattle.std.specs.Prelude.{ℕ, ◌≡◌, cond, List, []}
 use Rattle.codes.specs.Numbers.{unsound}
-use Rattle.decompressor.specs.declared.answer.Outcome.{Outcome}
+use Rattle.decompressor.specs.Answer.{Outcome}
 use Rattle.decompressor.specs.Answer.{Result, refused, said}
 use Rattle.decompressor.specs.Table.{open_of}
 use Rattle.planes.specs.Planes.{Lent}

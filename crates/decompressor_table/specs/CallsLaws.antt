@@ -2,8 +2,8 @@
 -- Used by the proofs of the decompressor's calls.
 use Rattle.std.specs.Prelude.{ℕ, ◌≡◌, refl, true, List}
 use Rattle.std.proofs.Common.{sym, ap, ◌∙◌}
-use Rattle.decompressor.specs.declared.answer.Outcome.{Outcome}
-use Rattle.decompressor.specs.declared.answer.Outcome.TheVariants.{Accepted}
+use Rattle.decompressor.specs.Answer.{Outcome}
+use Rattle.std.specs.Prelude.{Ok}
 use Rattle.decompressor.specs.Answer.{Result, said}
 use Rattle.decompressor.specs.Table.{open_of}
 use Rattle.planes.specs.Planes.{Lent}
@@ -17,7 +17,7 @@ gives-kept l o output want e = record { says = e; keeps = λ h q. refl }
 
 -- a call that is accepted
 pub gives-accepted : (before after : Lent) (n : ℕ) (output : List ℕ) (want : Result)
-    → said (Accepted n) (table_of after) output ≡ want → Gives before after (Accepted n) output want
+    → said (Ok n) (table_of after) output ≡ want → Gives before after (Ok n) output want
 gives-accepted before after n output want e = record {
   says = e;
   keeps = λ h q. absurd (h (sym (ap (λ (r : Result). r.number) e)));

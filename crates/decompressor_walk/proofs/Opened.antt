@@ -9,11 +9,11 @@ use lib.ListN.{length, get_or, set, replicate, length-set, length-replicate}
 use lib.Seq.{get_or-set_same, get_or-set_other}
 use Rattle.settings.specs.Settings as settings
 use Rattle.settings.specs.declared.Settings.{Settings}
-use Rattle.settings.specs.declared.Opened.TheVariants as opened
+use Rattle.packet.specs.declared.refusal.Refusal.{Refusal}
 use Rattle.packet.specs.declared.refusal.Refusal.TheVariants.{Unsound}
 use Rattle.context.specs.Sound.{empty_decompressor}
 use Rattle.context.specs.declared.decompressor.DecompressorContext.{DecompressorContext}
-use Rattle.decompressor.specs.declared.answer.Outcome.TheVariants.{Accepted, Refused}
+use Rattle.std.specs.Prelude.{Option, Some, None, Ok, Err, ok_or}
 use Rattle.decompressor.specs.declared.table.Table.{Table}
 use Rattle.decompressor.specs.Table.{empty_table, open_of}
 use Rattle.planes.specs.Planes.{Lent, lent, row, places}
@@ -57,12 +57,6 @@ module _ (l : Lent) (s : Settings) (z : Sizes l) (w : (x : ℕ) → get_or l.wor
   pub table-zero : Fits l × (table_of l ≡ empty_table s)
   table-zero = (fits-zero, table_of-fits l fits-zero ∙ planes-zero)
 
-pub cleared-length : (b b' : List ℕ) → b' ≡ replicate (length b) 0 → length b' ≡ length b
-cleared-length b b' e = ap (λ (l : List ℕ). length l) e ∙ length-replicate {A = ℕ} (length b) 0
-
-pub cleared-put : (b b' : List ℕ) (x v : ℕ) → b' ≡ replicate (length b) 0 → length (set b' x v) ≡ length b
-cleared-put b b' x v e = length-set b' x v ∙ cleared-length b b' e
-
 -- three slices cleared, and the settings put
 pub cleared : (s : Settings) (p q r : ℕ) → p ≡ 1280 → q ≡ 320 → r ≡ 834
     → Fits (lent (replicate p 0) (replicate q 0) (set (set (replicate r 0) 832 s.repeats) 833 s.contexts))
@@ -86,20 +80,29 @@ cleared s p q r ep eq er =
 ---- open_lent
 
 module _ (l : Lent) (n k : ℕ) where
-  pub open-sized : sized l ≡ false → Gives l l (Refused Unsound) [] (open_lent l n k)
+  pub open-sized : sized l ≡ false → Gives l l (Err Unsound) [] (open_lent l n k)
   unfolding open_lent
-  open-sized e = gives-kept l (Refused Unsound) [] (open_lent l n k) (rw e)
+  open-sized e = gives-kept l (Err Unsound) [] (open_lent l n k) (rw e)
 
   module _ (z : sized l ≡ true) where
-    pub open-refused : settings.said opened.Refused ≡ settings.open_of n k → Gives l l (Refused Unsound) [] (open_lent l n k)
+    open-refused : settings.said None ≡ settings.open_of n k → Gives l l (Err Unsound) [] (open_lent l n k)
     unfolding open_lent open_of
-    open-refused e = gives-kept l (Refused Unsound) [] (open_lent l n k) (rw (z, ← e))
+    open-refused e = gives-kept l (Err Unsound) [] (open_lent l n k) (rw (z, ← e))
 
-    open-says : (s : Settings) → settings.said (opened.Accepted s) ≡ settings.open_of n k
+    open-says : (s : Settings) → settings.said (Some s) ≡ settings.open_of n k
         → open_lent l n k ≡ record { number = 0; length = 0; output = []; table = empty_table s }
     unfolding open_lent open_of
     open-says s e = rw (z, ← e)
 
-    pub open-accepted : (s : Settings) (after : Lent) → settings.said (opened.Accepted s) ≡ settings.open_of n k
-        → table_of after ≡ empty_table s → Gives l after (Accepted 0) [] (open_lent l n k)
-    open-accepted s after e t = gives-accepted l after 0 [] (open_lent l n k) (rw t (sym (open-says s e)))
+    -- o: the settings, if they are in range; without them the refusal is the one that open gives in their place
+    pub open-none : (o : Option Settings) (why : Refusal) → ok_or o Unsound ≡ Err why → settings.said o ≡ settings.open_of n k
+        → Gives l l (Err why) [] (open_lent l n k)
+    open-none None why e h = let same : Unsound ≡ why = cc in rw (← same) (open-refused h)
+    open-none (Some s) why e h = absurd (cc)
+
+    pub open-some : (o : Option Settings) (s : Settings) (after : Lent) → ok_or o Unsound ≡ Ok s
+        → settings.said o ≡ settings.open_of n k → table_of after ≡ empty_table s → Gives l after (Ok 0) [] (open_lent l n k)
+    open-some None s after e h t = absurd (cc)
+    open-some (Some x) s after e h t =
+        let same : x ≡ s = cc in
+        gives-accepted l after 0 [] (open_lent l n k) (rw (t, ← same) (sym (open-says x h)))

@@ -1,8 +1,8 @@
 -- Iarwennol. The loops of the walk together are the soundness of the table, context by context. Assume nothing.
--- Used by the proofs of sound, wide_sound and lists_sound.
+-- Used by the proofs of sound and wide_sound.
 use Prim.Native.Nat.{ℕ, zero, suc, ◌+◌, ◌<◌}
 use mathlib.Core.Path.{◌≡◌, refl, sym, ap, ◌∙◌}
-use mathlib.Core.Bool.{Bool, true, false, cond, not, ◌&&◌, ◌||◌, and_assoc, and-false, or-true, and-eq-true_iff}
+use mathlib.Core.Bool.{Bool, true, false, cond, not, ◌&&◌, ◌||◌, and_assoc, and-false, and-eq-true_iff}
 use mathlib.Core.List.{List, [], ◌∷◌}
 use native.Mathlib.Nat.{zero-add}
 use native.Mathlib.Omega.{arith}
@@ -18,13 +18,13 @@ use Rattle.context.specs.declared.decompressor.DecompressorContext.{Decompressor
 use Rattle.decompressor.specs.Table.{empty_by, is_empty, sound_of, unopened}
 use Rattle.decompressor.proofs.TableLaws.{unsound-unopened}
 use Rattle.decompressor.specs.declared.table.Table.{Table}
-use Rattle.planes.specs.Planes.{Lent, cell, row, places, every}
-use Rattle.planes.proofs.EveryLaws.{every-and, every-same, every-swap, every-at, every_made, every_true}
+use Rattle.planes.specs.Planes.{Lent, cell, row, places, every, unused_at}
+use Rattle.planes.proofs.EveryLaws.{every-and, every-same, every-swap, every_true}
 use Rattle.planes.proofs.EveryLaws.{all-places, tail-places, every_given, passed}
 use Rattle.planes.proofs.ChainLaws.{Chain, none, leaf, both, eval, implied, same, absorbed, absorbed', under, one-zero}
 use Rattle.decompressor_table.specs.Layout.{status_of, flow_of, ip_of, rtp_of, list_of, deltas_of, link_of, context_of}
 use Rattle.decompressor_table.specs.Layout.{context_in, plane_table, sized, typed, fits, table_of}
-use Rattle.decompressor_walk.specs.Walk.{byte_test, short_test, word_test, past_at, free_at, unused_at}
+use Rattle.decompressor_walk.specs.Walk.{byte_test, short_test, word_test, past_at}
 use Rattle.decompressor_walk.specs.Walk.{filled_at, coded_at}
 
 ---- One place that was filled: the same tests in another order
@@ -318,11 +318,6 @@ empty-status s = by (eqb s 0) (eqb s 1)
     by true y = refl
     by false true = refl
     by false false = refl
-
--- a plane without words
-pub free-past : (w b : List ℕ) (k : ℕ) → every (free_at w k) 64 ≡ true → true ≡ every (past_at w b k) 64
-free-past w b k e =
-    sym (every_made (past_at w b k) 64 (λ i h. rw (every-at (free_at w k) 64 i h e) (or-true (ltb k (cell b 10 i)))))
 
 -- every place filled: of the wide numbers only the deltas' range is left
 module _ (w h b : List ℕ) where

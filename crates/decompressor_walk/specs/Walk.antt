@@ -1,9 +1,10 @@
 -- Iarwennol. What each loop of the walk over a decompressor's table tests, at one place.
 -- Used by the contracts of the loops; what they come to together is `sound_of` of the table (proofs/Walk.antt).
 -- b, h, w: the row of a place, or the planes.
-use Rattle.std.specs.Prelude.{ℕ, ◌+◌, Bool, not, ◌&&◌, ◌||◌, List, eqb, leb, ltb, get_or}
+use Rattle.std.specs.Prelude.{ℕ, Bool, not, ◌&&◌, ◌||◌, List, eqb, leb, get_or}
 use Rattle.codes.specs.Difference.{has_code}
 use Rattle.planes.specs.Planes.{cell}
+use Rattle.planes.specs.Planes as planes
 
 -- rules 2.3, 2.4: numbers within their limits; an empty context was never filled, a live one was; 0 in one that was never filled
 abbrev pub byte_test : (b : List ℕ) → Bool
@@ -63,12 +64,4 @@ coded_at w i = has_code 32 (cell w 4 i)
 
 -- word k of the list of place i: 0 unless the count reaches past it
 abbrev pub past_at : (w b : List ℕ) → (k i : ℕ) → Bool
-past_at w b k i = ltb k (cell b 10 i) || eqb (cell w (5 + k) i) 0
-
--- word k of the list of place i is 0
-abbrev pub free_at : (w : List ℕ) → (k i : ℕ) → Bool
-free_at w k i = eqb (cell w (5 + k) i) 0
-
--- rule 2.2: a place from k on is not in use
-abbrev pub unused_at : (b : List ℕ) → (k i : ℕ) → Bool
-unused_at b k i = ltb i k || eqb (cell b 0 i) 0
+past_at = planes.past_at 5 10

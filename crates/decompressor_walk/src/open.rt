@@ -7,8 +7,7 @@ ghost use Rattle.decompressor_table.specs.Calls.{Gives, open_lent};
 use decompressor::answer::Outcome;
 use decompressor_table::layout::Layout;
 use packet::refusal::Refusal;
-use planes::clear::{clear_bytes, clear_shorts, clear_words};
-use settings::{Opened, Settings};
+use settings::Settings;
 
 // A table with nothing in it. A load puts its contexts into one.
 pub fn put_empty(w: &mut [u32], h: &mut [u16], b: &mut [u8], s: Settings)
@@ -16,9 +15,9 @@ pub fn put_empty(w: &mut [u32], h: &mut [u16], b: &mut [u8], s: Settings)
     ensures { Fits (lent w.new h.new b.new)
         × (table_of (lent w.new h.new b.new) ≡ empty_table s) }
 {
-    clear_words(w);
-    clear_shorts(h);
-    clear_bytes(b);
+    w.fill(0);
+    h.fill(0);
+    b.fill(0);
     b[Layout::REPEATS] = s.repeats;
     b[Layout::CONTEXTS] = s.contexts;
 }
@@ -33,13 +32,9 @@ pub fn open(w: &mut [u32], h: &mut [u16], b: &mut [u8], n: u32, k: u32) -> Outco
         & (h.len() == Layout::SHORTS)
         & (b.len() == Layout::BYTES);
     if !sized {
-        return Outcome::Refused(Refusal::Unsound);
+        return Err(Refusal::Unsound);
     }
-    match Settings::open(n, k) {
-        Opened::Accepted(s) => {
-            put_empty(w, h, b, s);
-            Outcome::Accepted(0)
-        }
-        Opened::Refused => Outcome::Refused(Refusal::Unsound),
-    }
+    let s = Settings::open(n, k).ok_or(Refusal::Unsound)?;
+    put_empty(w, h, b, s);
+    Ok(0)
 }

@@ -38,11 +38,9 @@ fn main(rt: HostRuntime) -> io::Result<()> {
         count: none,
         back: none,
     };
-    let mut turn = 0;
-    while turn < stream::TURNS {
+    for turn in 0..stream::TURNS {
         let half = run::half_turn(&rt, link, turn)?;
         link = run::half_turn(&rt, half, turn)?;
-        turn += 1;
     }
     let there = link.count;
     let back = link.back;

@@ -29,7 +29,7 @@ pub fn opened(n: u32, k: u32) -> Place {
     let mut dh = [0u16; DecompressorLayout::SHORTS];
     let mut db = [0u8; DecompressorLayout::BYTES];
     let mut totals = [0u32; Totals::COUNT];
-    endpoint::open(
+    let _ = endpoint::open(
         &mut cw,
         &mut ch,
         &mut cb,

@@ -2,7 +2,7 @@ use crate::place;
 use crate::place::Place;
 use crate::show::{Count, Crossing, Fate, print_crossing, print_report};
 use crate::stream::{PAYLOAD, ROOM, is_lost, put_packet};
-use endpoint::Outcome;
+use endpoint::Done;
 use std::io;
 
 // One direction of the radio link: who sends, who receives, and what was counted of it; back is what was counted of the other one.
@@ -44,11 +44,11 @@ fn receive(e: Place, lost: bool, kind: u8, link: &[u8], p: &[u8]) -> Arrived {
     let after = answer.place;
     let outcome = answer.outcome;
     match outcome {
-        Outcome::Rebuilt(n) => Arrived {
+        Ok(Done::Rebuilt(n)) => Arrived {
             place: after,
             fate: Fate::Rebuilt(check::same(front(&out, n), p)),
         },
-        Outcome::Refused(r) => Arrived {
+        Err(r) => Arrived {
             place: after,
             fate: Fate::Refused(r),
         },
@@ -61,13 +61,13 @@ fn receive(e: Place, lost: bool, kind: u8, link: &[u8], p: &[u8]) -> Arrived {
 
 fn counted(c: Count, x: Crossing) -> Count {
     let mut next = c;
-    next.sent = std::num::wrapping_add_u32(c.sent, 1);
-    next.before = std::num::wrapping_add_u32(c.before, x.before);
-    next.after = std::num::wrapping_add_u32(c.after, x.after);
+    next.sent = c.sent.wrapping_add(1);
+    next.before = c.before.wrapping_add(x.before);
+    next.after = c.after.wrapping_add(x.after);
     let fate = x.fate;
     match fate {
-        Fate::Lost => next.lost = std::num::wrapping_add_u32(c.lost, 1),
-        Fate::Rebuilt(exact) => next.exact = std::num::wrapping_add_u32(c.exact, exact as u32),
+        Fate::Lost => next.lost = c.lost.wrapping_add(1),
+        Fate::Rebuilt(exact) => next.exact = c.exact.wrapping_add(exact as u32),
         Fate::Refused(_) => {}
     }
     next
@@ -86,7 +86,7 @@ fn carry(rt: &impl Print, l: Link, turn: u8) -> io::Result<Link> {
     let one = sent.place;
     next.sender = one;
     let outcome = sent.outcome;
-    let Outcome::Sent(kind, linked) = outcome else {
+    let Ok(Done::Sent(kind, linked)) = outcome else {
         return Ok(next);
     };
     let receiver = l.receiver;
@@ -98,7 +98,7 @@ fn carry(rt: &impl Print, l: Link, turn: u8) -> io::Result<Link> {
         from_arm: l.from_arm,
         kind: kind,
         before: before,
-        after: (std::num::wrapping_sub_usize(linked, PAYLOAD) % 256) as u32,
+        after: (linked.wrapping_sub(PAYLOAD) % 256) as u32,
         fate: fate,
     };
     let old = l.count;
@@ -124,7 +124,7 @@ fn report(rt: &impl Print, l: Link, turn: u8) -> io::Result<Link> {
     let other = said.place;
     next.receiver = other;
     let outcome = said.outcome;
-    let Outcome::Reported(n) = outcome else {
+    let Ok(Done::Reported(n)) = outcome else {
         return Ok(next);
     };
     if n == 0 {

@@ -81,11 +81,9 @@ pub fn put_packet(out: &mut [u8; ROOM], turn: u8, from_arm: bool) -> usize
 {
     let v = voice_at(turn);
     let words = words_of(v, turn, from_arm);
-    let mut at = 0;
-    while at < ROOM {
+    for at in 0..ROOM {
         let place = 24 - 8 * (at % 4);
         out[at] = ((words[at / 4] >> place) % 256) as u8;
-        at += 1;
     }
     (60 + 4 * v.sources) as usize
 }

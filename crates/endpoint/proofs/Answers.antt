@@ -4,9 +4,10 @@ use Prim.Native.Nat.{ℕ}
 use mathlib.Core.Path.{◌≡◌, refl, ap, ◌∙◌}
 use mathlib.Core.Bool.{true, false, true≢false, false≢true}
 use mathlib.Core.List.{List, []}
+use Rattle.std.specs.Prelude.{Ok, Err}
 use Rattle.crtp.specs.Face as crtp
 use Rattle.crtp.specs.Face.{CompressorOutcome, CompressorTable, DecompressorOutcome, DecompressorTable, refusal_number-refused}
-use Rattle.endpoint.specs.declared.answer.Outcome.{Outcome}
+use Rattle.endpoint.specs.Answer.{Outcome}
 use Rattle.endpoint.specs.declared.answer.Endpoint.{Endpoint}
 use Rattle.endpoint.specs.Totals.{rebuilt, quiet, no_totals, tallied}
 use Rattle.endpoint.specs.Answer.{Result, said}
@@ -28,14 +29,14 @@ module _ (e : Endpoint) (output : List ℕ) where
   module _ (t : CompressorTable) where
     sent-by : (o : CompressorOutcome)
         → answer (sent_of o) (sender e t (sent_of o)) output ≡ sent_by e (crtp.sending.said o t output)
-    sent-by (CompressorOutcome.Accepted k n) = refl
-    sent-by (CompressorOutcome.Refused r) = rw (refusal_number-refused r)
+    sent-by (Ok (k, n)) = refl
+    sent-by (Err r) = rw (refusal_number-refused r)
 
     requested-by : (o : CompressorOutcome)
         → answer (requested_of o) (sender e t (requested_of o)) output
         ≡ requested_by e output (crtp.sending.said o t [])
-    requested-by (CompressorOutcome.Accepted k n) = refl
-    requested-by (CompressorOutcome.Refused r) = rw (refusal_number-refused r)
+    requested-by (Ok (k, n)) = refl
+    requested-by (Err r) = rw (refusal_number-refused r)
 
     module _ (o : CompressorOutcome) (x : crtp.sending.Result) where
       pub said-sent : crtp.sending.said o t output ≡ x
@@ -50,14 +51,14 @@ module _ (e : Endpoint) (output : List ℕ) where
     rebuilt-by : (o : DecompressorOutcome)
         → answer (rebuilt_of o) (receiver e t (rebuilt_of o)) output
         ≡ answered_by rebuilt e (crtp.receiving.said o t output)
-    rebuilt-by (DecompressorOutcome.Accepted n) = refl
-    rebuilt-by (DecompressorOutcome.Refused r) = rw (refusal_number-refused r)
+    rebuilt-by (Ok n) = refl
+    rebuilt-by (Err r) = rw (refusal_number-refused r)
 
     reported-by : (o : DecompressorOutcome)
         → answer (reported_of o) (receiver e t (reported_of o)) output
         ≡ answered_by quiet e (crtp.receiving.said o t output)
-    reported-by (DecompressorOutcome.Accepted n) = refl
-    reported-by (DecompressorOutcome.Refused r) = rw (refusal_number-refused r)
+    reported-by (Ok n) = refl
+    reported-by (Err r) = rw (refusal_number-refused r)
 
     module _ (o : DecompressorOutcome) (y : crtp.receiving.Result)
         (q : crtp.receiving.said o t output ≡ y) where
@@ -76,12 +77,12 @@ module _ (e : Endpoint) (t : CompressorTable) (d : DecompressorTable) where
 
   pub said-opened : (x : CompressorOutcome) (y : DecompressorOutcome) → is_accepted (opened_of x y) ≡ true
       → answer (opened_of x y) (record { compressor = t; decompressor = d; totals = no_totals }) [] ≡ opening x y
-  said-opened (CompressorOutcome.Accepted k n) (DecompressorOutcome.Accepted m) a = refl
-  said-opened (CompressorOutcome.Accepted k n) (DecompressorOutcome.Refused r) a = absurd (false≢true a)
-  said-opened (CompressorOutcome.Refused r) y a = absurd (false≢true a)
+  said-opened (Ok (k, n)) (Ok m) a = refl
+  said-opened (Ok (k, n)) (Err r) a = absurd (false≢true a)
+  said-opened (Err r) y a = absurd (false≢true a)
 
   pub said-unopened : (x : CompressorOutcome) (y : DecompressorOutcome) → is_accepted (opened_of x y) ≡ false
       → answer (opened_of x y) e [] ≡ opening x y
-  said-unopened (CompressorOutcome.Accepted k n) (DecompressorOutcome.Accepted m) a = absurd (true≢false a)
-  said-unopened (CompressorOutcome.Accepted k n) (DecompressorOutcome.Refused r) a = rw (refusal_number-refused r)
-  said-unopened (CompressorOutcome.Refused r) y a = rw (refusal_number-refused r, refusal_number-refused r)
+  said-unopened (Ok (k, n)) (Ok m) a = absurd (true≢false a)
+  said-unopened (Ok (k, n)) (Err r) a = rw (refusal_number-refused r)
+  said-unopened (Err r) y a = rw (refusal_number-refused r, refusal_number-refused r)

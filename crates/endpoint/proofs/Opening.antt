@@ -13,8 +13,8 @@ use Rattle.crtp.specs.Face.{open_decompressor_of}
 use Rattle.crtp.specs.Face.{open_compressor_lent, open_decompressor_lent, open_compressor-says, open_decompressor-says}
 use Rattle.crtp.specs.Face.{open-alike, open-leaves, refusal_number, refusal_number-refused}
 use Rattle.endpoint.specs.declared.answer.Endpoint.{Endpoint}
-use Rattle.endpoint.specs.declared.answer.Outcome.{Outcome}
-use Rattle.endpoint.specs.declared.answer.Outcome.TheVariants.{Opened, Sent, Rebuilt, Requested, Reported, Refused}
+use Rattle.endpoint.specs.Answer.{Outcome}
+use Rattle.std.specs.Prelude.{Ok, Err}
 use Rattle.endpoint.specs.Totals.{totals_of, no_totals}
 use Rattle.endpoint.specs.Answer.{Result, said, number_of}
 use Rattle.endpoint.specs.Outcomes.{opened_of, is_accepted}
@@ -24,20 +24,16 @@ use Rattle.endpoint.specs.LentLaws.{held, endpoint_of-counted, gives_of}
 use Rattle.endpoint.proofs.Answers.{said-opened, said-unopened}
 
 accepted-number : (o : Outcome) → is_accepted o ≡ true → number_of o ≡ 0
-accepted-number Opened e = refl
-accepted-number (Sent k n) e = refl
-accepted-number (Rebuilt n) e = refl
-accepted-number Requested e = refl
-accepted-number (Reported n) e = refl
-accepted-number (Refused r) e = absurd (false≢true e)
+accepted-number (Ok d) e = refl
+accepted-number (Err r) e = absurd (false≢true e)
 
 -- x, y: what the ends answered; one of them refused
 refused-one : (x : CompressorOutcome) (y : DecompressorOutcome) → is_accepted (opened_of x y) ≡ false
     → crtp.sending.number_of x ≡ crtp.receiving.number_of y → crtp.sending.number_of x ≡ 0 → ⊥
-refused-one (CompressorOutcome.Accepted k n) (DecompressorOutcome.Accepted m) a e z = true≢false a
-refused-one (CompressorOutcome.Accepted k n) (DecompressorOutcome.Refused r) a e z =
+refused-one (Ok (k, n)) (Ok m) a e z = true≢false a
+refused-one (Ok (k, n)) (Err r) a e z =
     eqb-false (refusal_number r) 0 (refusal_number-refused r) (sym e)
-refused-one (CompressorOutcome.Refused r) y a e z = eqb-false (refusal_number r) 0 (refusal_number-refused r) z
+refused-one (Err r) y a e z = eqb-false (refusal_number r) 0 (refusal_number-refused r) z
 
 module _ (s s' r r' : Lent) (t : List ℕ) (n k : ℕ) (x : CompressorOutcome) (y : DecompressorOutcome)
     (zs : sized_compressor s ≡ true) (zr : sized_decompressor r ≡ true) (zt : counted t ≡ true)

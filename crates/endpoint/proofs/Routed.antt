@@ -11,8 +11,8 @@ use Rattle.crtp.specs.Face.{Lent, CompressorOutcome, DecompressorOutcome, Compre
 use Rattle.crtp.specs.Face.{compressor_of, decompressor_of, send_of, request_of, receive_of}
 use Rattle.crtp.specs.Face.{send-closed, request-closed, receive-closed, report-closed, Refusal}
 use Rattle.endpoint.specs.declared.answer.Endpoint.{Endpoint}
-use Rattle.endpoint.specs.declared.answer.Outcome.{Outcome}
-use Rattle.endpoint.specs.declared.answer.Outcome.TheVariants.{Refused}
+use Rattle.endpoint.specs.Answer.{Outcome}
+use Rattle.std.specs.Prelude.{Err}
 use Rattle.endpoint.specs.Totals.{rebuilt, totals_of, tallied}
 use Rattle.endpoint.specs.Answer.{Result, said}
 use Rattle.endpoint.specs.Outcomes.{sent_of, requested_of, rebuilt_of, reported_of, event_of}
@@ -27,29 +27,29 @@ module _ (s r : Lent) (t : List ℕ) (e : counted t ≡ false) where
   abbrev here : Ends
   here = ends s r t
 
-  closed : (output : List ℕ) (f : Endpoint → Result) → said (Refused Refusal.Unsound) closed_endpoint output ≡ f closed_endpoint
-      → Gives here here (Refused Refusal.Unsound) output (f (endpoint_of here))
-  closed output f q = gives_of here here (Refused Refusal.Unsound) output f closed_endpoint (endpoint_of-not s r t e)
-      (ap (λ (z : Endpoint). said (Refused Refusal.Unsound) z output) (endpoint_of-not s r t e) ∙ q) (λ n u. refl) (λ n u. refl)
+  closed : (output : List ℕ) (f : Endpoint → Result) → said (Err Refusal.Unsound) closed_endpoint output ≡ f closed_endpoint
+      → Gives here here (Err Refusal.Unsound) output (f (endpoint_of here))
+  closed output f q = gives_of here here (Err Refusal.Unsound) output f closed_endpoint (endpoint_of-not s r t e)
+      (ap (λ (z : Endpoint). said (Err Refusal.Unsound) z output) (endpoint_of-not s r t e) ∙ q) (λ n u. refl) (λ n u. refl)
 
-  pub closed-wire : (p output : List ℕ) → Gives here here (Refused Refusal.Unsound) output (wire_of (endpoint_of here) p output)
+  pub closed-wire : (p output : List ℕ) → Gives here here (Err Refusal.Unsound) output (wire_of (endpoint_of here) p output)
   unfolding wire_of
   closed-wire p output = closed output (λ (z : Endpoint). wire_of z p output) (rw (send-closed p output))
 
   pub closed-ask : (q output : List ℕ)
-      → Gives here here (Refused Refusal.Unsound) output
+      → Gives here here (Err Refusal.Unsound) output
       (requested_by (endpoint_of here) output (request_of (endpoint_of here).compressor q))
   closed-ask q output =
       closed output (λ (z : Endpoint). requested_by z output (request_of z.compressor q)) (rw (request-closed q))
 
   pub closed-rebuild : (kind : ℕ) (q output : List ℕ)
-      → Gives here here (Refused Refusal.Unsound) output
+      → Gives here here (Err Refusal.Unsound) output
       (answered_by rebuilt (endpoint_of here) (receive_of (endpoint_of here).decompressor kind q output))
   closed-rebuild kind q output =
       closed output (λ (z : Endpoint). answered_by rebuilt z (receive_of z.decompressor kind q output))
       (rw (receive-closed kind q output))
 
-  pub closed-report : (output : List ℕ) → Gives here here (Refused Refusal.Unsound) output (report_of (endpoint_of here) output)
+  pub closed-report : (output : List ℕ) → Gives here here (Err Refusal.Unsound) output (report_of (endpoint_of here) output)
   unfolding report_of
   closed-report output = closed output (λ (z : Endpoint). report_of z output) (rw (report-closed output))
 

@@ -3,7 +3,7 @@
 use Rattle.std.specs.Prelude.{ℕ, ◌≡◌, Bool, cond, ◌&&◌, List, [], eqb, length}
 use Rattle.crtp.specs.Face.{Lent, compressor_of, decompressor_of, sized_compressor, sized_decompressor, unsound, request_of}
 use Rattle.endpoint.specs.declared.answer.Endpoint.{Endpoint}
-use Rattle.endpoint.specs.declared.answer.Outcome.{Outcome}
+use Rattle.endpoint.specs.Answer.{Outcome}
 use Rattle.endpoint.specs.Totals.{totals_of}
 use Rattle.endpoint.specs.Answer.{Result, said}
 use Rattle.endpoint.specs.Calls.{closed_endpoint, open_of, requested_by}

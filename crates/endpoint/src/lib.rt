@@ -20,8 +20,8 @@ ghost use Rattle.endpoint.specs.Lent.{ends, endpoint_of, Gives, open_lent, Sende
 ghost use Rattle.endpoint.specs.Calls.{wire_of, radio_of, report_of};
 ghost use Rattle.std.specs.Prelude.{[]};
 
-pub use crate::answer::Outcome;
-use crate::answer::{is_accepted, opened};
+use crate::answer::opened;
+pub use crate::answer::{Done, Outcome};
 pub use crate::totals::Totals;
 use crate::totals::put_totals;
 pub use crtp::Refusal;
@@ -58,12 +58,12 @@ pub fn open(
         & (db.len() == DecompressorLayout::BYTES);
     let counted = t.len() == Totals::COUNT;
     if !(sender & receiver & counted) {
-        return Outcome::Refused(Refusal::Unsound);
+        return Err(Refusal::Unsound);
     }
     let first = crtp::open_compressor(cw, ch, cb, n, k);
     let second = crtp::open_decompressor(dw, dh, db, n, k);
     let outcome = opened(first, second);
-    if is_accepted(outcome) {
+    if outcome.is_ok() {
         put_totals(
             t,
             Totals {

@@ -34,7 +34,7 @@ pub fn wire(
         t.old t.new result out.new (λ e. wire_of e p.now out.old) }
 {
     if t.len() != Totals::COUNT {
-        return Outcome::Refused(Refusal::Unsound);
+        return Err(Refusal::Unsound);
     }
     let o = crtp::send(w, h, b, p, out);
     let outcome = sent(o);
@@ -48,7 +48,7 @@ pub fn ask(w: &mut [u32], h: &mut [u16], b: &mut [u8], t: &mut [u32], s: &[u8]) 
         t.old t.new result s.now }
 {
     if t.len() != Totals::COUNT {
-        return Outcome::Refused(Refusal::Unsound);
+        return Err(Refusal::Unsound);
     }
     let o = crtp::request(w, h, b, s);
     let outcome = requested(o);
@@ -72,7 +72,7 @@ pub fn rebuild(
         (λ e. answered_by rebuilt e (receive_of e.decompressor kind s.now out.old)) }
 {
     if t.len() != Totals::COUNT {
-        return Outcome::Refused(Refusal::Unsound);
+        return Err(Refusal::Unsound);
     }
     let o = crtp::receive(w, h, b, kind, s, out);
     let outcome = rebuilt(o);
@@ -86,7 +86,7 @@ pub fn report(w: &[u32], h: &[u16], b: &[u8], t: &mut [u32], out: &mut [u8]) -> 
         t.old t.new result out.new (λ e. report_of e out.old) }
 {
     if t.len() != Totals::COUNT {
-        return Outcome::Refused(Refusal::Unsound);
+        return Err(Refusal::Unsound);
     }
     let o = crtp::report(w, h, b, out);
     let outcome = reported(o);

@@ -1,2 +1,3 @@
 -- Iarwennol. Laws that only proofs cite, of this crate and of those above it.
 pub mod NextRange
+mod Taken

@@ -20,57 +20,70 @@ use Rattle.codes.specs.Reading.{read_long, read_delta, read_by, value_in, code_a
 use Rattle.codes.proofs.RoundTrip.{left_after}
 use Rattle.codes.proofs.BytesRead.{AllBytes-byte_at}
 use Rattle.packet.specs.Ranges.{ListSound, ListInRange, Sendable}
-use Rattle.packet.specs.RangesLaws.{zero-words, sendable-zero}
+use Rattle.packet.specs.RangesLaws.{zero-words}
 use Rattle.fields.specs.declared.place.Place.{Place}
 use Rattle.packet.specs.Refusal.{is_accepted}
-use Rattle.fields.specs.Place.{passed}
-use Rattle.fields.specs.Next.{next, taken, formed, read_payload, read_version, next_byte, next_word, next_long, next_delta16}
+use Rattle.std.specs.Prelude.{IfSome, Option, Some, None}
+use Rattle.std.proofs.Common.{pow_pos}
+use Rattle.fields.specs.declared.place.Got.{Got}
+use Rattle.fields.specs.Place.{passed, or_zero}
+use Rattle.fields.specs.Next.{next, next_as, taken, formed, read_payload, read_version, next_byte, next_word, next_long}
+use Rattle.fields.specs.Next.{next_delta16}
 use Rattle.fields.specs.Next.{next_delta32, next_payload, next_version, next_list}
 
 ---- next: what holds of every answer of the reader holds of the step
 
 module _ (read : ℕ → Reading) (p : Place) (w : Bool) where
-  taken-within : (n : ℕ) (r : Reading) (b : Bool) → r.at ≤ n → p.cursor.at ≤ n → eqb r.number 0 ≡ b
-      → (taken p r).place.cursor.at ≤ n
-  taken-within n r true h k e = rw e h
-  taken-within n r false h k e = rw e k
+  abbrev taken_at : Got ℕ
+  taken_at = taken (λ v. v) p.cursor.at (read p.cursor.at)
+
+  taken-within : (n at : ℕ) (r : Reading) (b : Bool) → r.at ≤ n → at ≤ n → eqb r.number 0 ≡ b
+      → (taken {A = ℕ} (λ v. v) at r).place.cursor.at ≤ n
+  taken-within n at r true h k e = rw e h
+  taken-within n at r false h k e = rw e k
 
   pub next-within : (n : ℕ) → ((at : ℕ) → (read at).at ≤ n) → p.cursor.at ≤ n → (next read p w).place.cursor.at ≤ n
-  unfolding next
+  unfolding next_as
   next-within n h k = by (is_accepted p.verdict && w) refl
     where
-      by : (b : Bool) → (is_accepted p.verdict && w) ≡ b
-          → (cond b (taken p (read p.cursor.at)) (passed p)).place.cursor.at ≤ n
-      by true e = taken-within n (read p.cursor.at) _ (h p.cursor.at) k refl
+      by : (b : Bool) → (is_accepted p.verdict && w) ≡ b → (cond b taken_at (passed p)).place.cursor.at ≤ n
+      by true e = taken-within n p.cursor.at (read p.cursor.at) _ (h p.cursor.at) k refl
       by false e = k
 
-  taken_step : (Q : Bool → ℕ → Type 0) (r : Reading) (b : Bool) → Q false 0 → Q true r.value → eqb r.number 0 ≡ b
-      → Q (taken p r).sent (taken p r).value
-  taken_step Q r true z h e = rw e h
-  taken_step Q r false z h e = rw e z
+  taken-field : (Q : ℕ → Type 0) (at : ℕ) (r : Reading) (b : Bool) → Q r.value → eqb r.number 0 ≡ b
+      → IfSome (taken {A = ℕ} (λ v. v) at r).field Q
+  taken-field Q at r true h e = rw e h
+  taken-field Q at r false h e = rw e tt
 
-  next-step : (Q : Bool → ℕ → Type 0) → Q false 0 → (w ≡ true → (at : ℕ) → Q true (read at).value)
-      → Q (next read p w).sent (next read p w).value
-  unfolding next
-  next-step Q z h = by (is_accepted p.verdict && w) refl
+  pub next-field : (Q : ℕ → Type 0) → ((at : ℕ) → Q (read at).value) → IfSome (next read p w).field Q
+  unfolding next_as
+  next-field Q h = by (is_accepted p.verdict && w) refl
     where
-      by : (b : Bool) → (is_accepted p.verdict && w) ≡ b
-          → Q (cond b (taken p (read p.cursor.at)) (passed p)).sent (cond b (taken p (read p.cursor.at)) (passed p)).value
-      by true e =
-          taken_step Q (read p.cursor.at) _ z (h ((and-eq-true_iff (is_accepted p.verdict) w).0 e).1 p.cursor.at) refl
-      by false e = z
+      by : (b : Bool) → (is_accepted p.verdict && w) ≡ b → IfSome (cond b taken_at (passed p)).field Q
+      by true e = taken-field Q p.cursor.at (read p.cursor.at) _ (h p.cursor.at) refl
+      by false e = tt
 
-  pub next-value : (Q : ℕ → Type 0) → Q 0 → ((at : ℕ) → Q (read at).value) → Q (next read p w).value
-  next-value Q z h = next-step (λ sent x. Q x) z (λ e. h)
+  -- what holds of 0 and of every value that is read
+  pub next-value : (Q : ℕ → Type 0) → Q 0 → ((at : ℕ) → Q (read at).value) → Q (or_zero (next read p w).field)
+  next-value Q z h = by (next read p w).field (next-field Q h)
+    where
+      by : (o : Option ℕ) → IfSome o Q → Q (or_zero o)
+      by (Some v) q = q
+      by None q = z
 
-  -- a field that was read can be sent again
-  next-sendable : (n : ℕ) → ((at : ℕ) → (read at).value < 2 ^ n) → Sendable n (next read p w).sent (next read p w).value
-  next-sendable n h = next-step (Sendable n) (sendable-zero n false) (λ e at. record { fits = h at; blank = refl })
+module _ (read : ℕ → Reading) (p : Place) where
+  unwanted : (b : Bool) → 0 ≡ or_zero (cond (b && false) (taken (λ v. v) p.cursor.at (read p.cursor.at)) (passed p)).field
+  unwanted true = refl
+  unwanted false = refl
 
-  -- and its value alone, as that of a field which is sent where it was wanted
-  next-wanted : (n : ℕ) → ((at : ℕ) → (read at).value < 2 ^ n) → Sendable n w (next read p w).value
-  next-wanted n h =
-      next-step (λ sent x. Sendable n w x) (sendable-zero n w) (λ e at. record { fits = h at; blank = rw e })
+  blank : (w : Bool) → cond w (or_zero (next read p w).field) 0 ≡ or_zero (next read p w).field
+  unfolding next_as
+  blank true = refl
+  blank false = unwanted (is_accepted p.verdict)
+
+  -- the number of a field, as one that is carried where it was wanted
+  pub next-wanted : (w : Bool) (n : ℕ) → ((at : ℕ) → (read at).value < 2 ^ n) → Sendable n w (or_zero (next read p w).field)
+  next-wanted w n h = record { fits = next-value read p w (λ x. x < 2 ^ n) (pow_pos n) h; blank = blank w }
 
 ---- the readers: never past the end
 
@@ -272,43 +285,42 @@ module _ (s : List ℕ) (p : Place) (within : p.cursor.at ≤ length s) where
   next_version-within = next-within (read_version s) p true (length s) (read_version-within s) within
 
 module _ (s : List ℕ) (p : Place) (w : Bool) where
-  pub next_delta16-sendable : Sendable 16 (next_delta16 s p w).field.sent (next_delta16 s p w).field.value
+  pub next_delta16-range : IfSome (next_delta16 s p w).field (λ v. v < 2 ^ 16)
   unfolding next_delta16
-  next_delta16-sendable = next-sendable (read_delta 16 s) p w 16 (read_delta16-value s)
+  next_delta16-range = next-field (read_delta 16 s) p w (λ v. v < 2 ^ 16) (read_delta16-value s)
 
-  pub next_delta32-sendable : Sendable 32 (next_delta32 s p w).field.sent (next_delta32 s p w).field.value
+  pub next_delta32-range : IfSome (next_delta32 s p w).field (λ v. v < 2 ^ 32)
   unfolding next_delta32
-  next_delta32-sendable = next-sendable (read_delta 32 s) p w 32 (read_delta32-value s)
+  next_delta32-range = next-field (read_delta 32 s) p w (λ v. v < 2 ^ 32) (read_delta32-value s)
 
-  pub next_delta32-coded : has_code 32 (next_delta32 s p w).field.value ≡ true
+  pub next_delta32-coded : IfSome (next_delta32 s p w).field (λ v. has_code 32 v ≡ true)
   unfolding next_delta32
-  next_delta32-coded = next-value (read_delta 32 s) p w (λ x. has_code 32 x ≡ true) (has_code-low 0 (omega arith))
-      (read_delta32-coded s)
+  next_delta32-coded = next-field (read_delta 32 s) p w (λ v. has_code 32 v ≡ true) (read_delta32-coded s)
 
-  pub next_payload-value : (next_payload s p w).field.value < 128
+  pub next_payload-range : IfSome (next_payload s p w).field (λ v. v < 128)
   unfolding next_payload
-  next_payload-value = next-value (read_payload s) p w (λ x. x < 128) (omega arith) (read_payload-value s)
-
-  pub next_payload-sendable : Sendable 7 (next_payload s p w).field.sent (next_payload s p w).field.value
-  unfolding next_payload
-  next_payload-sendable = next-sendable (read_payload s) p w 7 (read_payload-value s)
+  next_payload-range = next-field (read_payload s) p w (λ v. v < 128) (read_payload-value s)
 
 module _ (s : List ℕ) (all : AllBytes s) (p : Place) (w : Bool) where
-  pub next_byte-value : (next_byte s p w).field.value < 256
+  pub next_byte-value : or_zero (next_byte s p w).field < 256
   unfolding next_byte
   next_byte-value = next-value (read_byte s) p w (λ x. x < 256) (omega arith) (read_byte-value s all)
 
-  pub next_word-sendable : Sendable 16 (next_word s p w).field.sent (next_word s p w).field.value
+  pub next_word-range : IfSome (next_word s p w).field (λ v. v < 2 ^ 16)
   unfolding next_word
-  next_word-sendable = next-sendable (read_word s) p w 16 (read_word-value s all)
+  next_word-range = next-field (read_word s) p w (λ v. v < 2 ^ 16) (read_word-value s all)
 
-  pub next_word-wanted : Sendable 16 w (next_word s p w).field.value
+  pub next_word-wanted : Sendable 16 w (or_zero (next_word s p w).field)
   unfolding next_word
   next_word-wanted = next-wanted (read_word s) p w 16 (read_word-value s all)
 
-  pub next_long-sendable : Sendable 32 (next_long s p w).field.sent (next_long s p w).field.value
+  pub next_long-range : IfSome (next_long s p w).field (λ v. v < 2 ^ 32)
   unfolding next_long
-  next_long-sendable = next-sendable (read_long s) p w 32 (read_long-value s all)
+  next_long-range = next-field (read_long s) p w (λ v. v < 2 ^ 32) (read_long-value s all)
+
+  next_long-value : or_zero (next_long s p w).field < 2 ^ 32
+  unfolding next_long
+  next_long-value = next-value (read_long s) p w (λ v. v < 2 ^ 32) (omega arith) (read_long-value s all)
 
 ---- the CSRC list
 
@@ -336,7 +348,7 @@ module _ (s : List ℕ) (p : Place) where
   list-blank : (n : ℕ) → n ≤ 15 → drop n (next_list s p n).list.words ≡ replicate (15 - n) 0
   list-blank zero h = refl
   list-blank (suc n) h =
-      rw (next_list-count n) (blank-less (next_list s p n).list.words n (next_long s (next_list s p n).place true).field.value
+      rw (next_list-count n) (blank-less (next_list s p n).list.words n (or_zero (next_long s (next_list s p n).place true).field)
       (omega arith) (list-blank n (omega arith)))
 
   pub next_list-sound : (n : ℕ) → n ≤ 15 → ListSound (next_list s p n).list
@@ -358,8 +370,9 @@ module _ (s : List ℕ) (all : AllBytes s) (p : Place) where
   list-small : (n i : ℕ) → get_or (next_list s p n).list.words i 0 < 2 ^ 32
   list-small zero i = zero-words 15 i
   list-small (suc n) i =
-      set-within (next_list s p n).list.words (next_list s p n).list.count (next_long s (next_list s p n).place true).field.value
-      (2 ^ 32) (next_long-sendable s all (next_list s p n).place true).fits (list-small n) i
+      set-within (next_list s p n).list.words (next_list s p n).list.count
+      (or_zero (next_long s (next_list s p n).place true).field)
+      (2 ^ 32) (next_long-value s all (next_list s p n).place true) (list-small n) i
 
   pub next_list-range : (n : ℕ) → n ≤ 15 → ListInRange (next_list s p n).list
   next_list-range n h = let l = next_list-sound s p n h in

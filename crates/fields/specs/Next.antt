@@ -7,23 +7,23 @@ use Rattle.headers.specs.Rtp.{rtp_first_of}
 use Rattle.packet.specs.Csrc.{no_list}
 use Rattle.packet.specs.declared.csrc.Csrc.{Csrc}
 use Rattle.fields.specs.declared.place.Place.{Place}
-use Rattle.fields.specs.declared.place.Got8.{Got8}
-use Rattle.fields.specs.declared.place.Got16.{Got16}
-use Rattle.fields.specs.declared.place.Got32.{Got32}
+use Rattle.fields.specs.declared.place.Got.{Got}
 use Rattle.fields.specs.declared.place.GotList.{GotList}
-use Rattle.fields.specs.Place.{Step, step, passed, good, stopped, got8, got16, got32}
+use Rattle.fields.specs.Place.{there, passed, stopped, or_zero}
 use Rattle.packet.specs.Refusal.{is_accepted}
 
 ---- one step
 
--- what is made of a reader's answer at p: the field and the place past it, or a refusal by the answer's number
-abbrev pub taken : Place → Reading → Step
-taken p r = cond (eqb r.number 0) (step (good r.at) true r.value)
-    (passed (stopped p.cursor.at r.number))
+-- what is made of a reader's answer at a place: the field of a number and the place past it, or a refusal by the answer's number
+abbrev pub taken : {A : Type 0} → (ℕ → A) → (at : ℕ) → Reading → Got A
+taken of at r = cond (eqb r.number 0) (there r.at (of r.value)) (passed (stopped at r.number))
 
 -- rule 3.3: the field at p where it is wanted; p as it is where it is not, or where a field before it was refused
-unfoldable pub next : (ℕ → Reading) → Place → Bool → Step
-next read p wanted = cond (is_accepted p.verdict && wanted) (taken p (read p.cursor.at)) (passed p)
+unfoldable pub next_as : {A : Type 0} → (ℕ → A) → (ℕ → Reading) → Place → Bool → Got A
+next_as of read p wanted = cond (is_accepted p.verdict && wanted) (taken of p.cursor.at (read p.cursor.at)) (passed p)
+
+abbrev pub next : (ℕ → Reading) → Place → Bool → Got ℕ
+next read p wanted = next_as (λ v. v) read p wanted
 
 ---- fields whose form is judged
 
@@ -41,33 +41,33 @@ read_version s at = cond (has s at 12) (formed (λ v. eqb (rtp_first_of v).versi
 
 ---- the steps
 
-unfoldable pub next_byte : List ℕ → Place → Bool → Got8
-next_byte s p wanted = got8 (next (read_byte s) p wanted)
+unfoldable pub next_byte : List ℕ → Place → Bool → Got ℕ
+next_byte s p wanted = next (read_byte s) p wanted
 
-unfoldable pub next_word : List ℕ → Place → Bool → Got16
-next_word s p wanted = got16 (next (read_word s) p wanted)
+unfoldable pub next_word : List ℕ → Place → Bool → Got ℕ
+next_word s p wanted = next (read_word s) p wanted
 
-unfoldable pub next_long : List ℕ → Place → Bool → Got32
-next_long s p wanted = got32 (next (read_long s) p wanted)
+unfoldable pub next_long : List ℕ → Place → Bool → Got ℕ
+next_long s p wanted = next (read_long s) p wanted
 
-unfoldable pub next_delta16 : List ℕ → Place → Bool → Got16
-next_delta16 s p wanted = got16 (next (read_delta 16 s) p wanted)
+unfoldable pub next_delta16 : List ℕ → Place → Bool → Got ℕ
+next_delta16 s p wanted = next (read_delta 16 s) p wanted
 
-unfoldable pub next_delta32 : List ℕ → Place → Bool → Got32
-next_delta32 s p wanted = got32 (next (read_delta 32 s) p wanted)
+unfoldable pub next_delta32 : List ℕ → Place → Bool → Got ℕ
+next_delta32 s p wanted = next (read_delta 32 s) p wanted
 
-unfoldable pub next_payload : List ℕ → Place → Bool → Got8
-next_payload s p wanted = got8 (next (read_payload s) p wanted)
+unfoldable pub next_payload : List ℕ → Place → Bool → Got ℕ
+next_payload s p wanted = next (read_payload s) p wanted
 
-unfoldable pub next_version : List ℕ → Place → Got8
-next_version s p = got8 (next (read_version s) p true)
+unfoldable pub next_version : List ℕ → Place → Got ℕ
+next_version s p = next (read_version s) p true
 
 ---- the CSRC list
 
--- a list with one word more
-abbrev pub with_word : Csrc → Got32 → GotList
+-- a list with one word more, 0 where it was refused
+abbrev pub with_word : Csrc → Got ℕ → GotList
 with_word l g =
-    record { place = g.place; list = record { count = suc l.count; words = set l.words l.count g.field.value } }
+    record { place = g.place; list = record { count = suc l.count; words = set l.words l.count (or_zero g.field) } }
 
 -- rules 2.4, 6.4: a whole list: n words in its first places, 0 in the others
 abbrev pub next_list : List ℕ → Place → ℕ → GotList

@@ -1,9 +1,9 @@
 -- Iarwennol. A field that was written is read back, and the reading goes on past it. Assumes nothing.
 -- A reading is about what is left from a place on: `drop at s ≡ written ++ rest`. Used by the round trips of the link layouts
 -- (links).
-use Rattle.std.specs.Prelude.{ℕ, zero, suc, ◌+◌, ◌-◌, ◌/◌, ◌^◌, ◌≤◌, ◌<◌, ◌≡◌, refl, Bool, true, false, cond, List, [], ◌∷◌, ◌++◌}
+use Rattle.std.specs.Prelude.{ℕ, zero, suc, ◌+◌, ◌-◌, ◌/◌, ◌^◌, ◌≤◌, ◌<◌, ◌≡◌, refl, Bool, true, false, List, [], ◌∷◌, ◌++◌}
 use Rattle.std.specs.Prelude.{length, get_or, set, take, drop, replicate}
-use Rattle.std.proofs.Math.Path.{ap}
+use Rattle.std.specs.Bool.{then_some}
 use Rattle.std.proofs.Common.{◌∙◌, append_assoc, add-zero, add_assoc, add-one, arith, length-append, take-append-drop}
 use Rattle.std.proofs.Common.{length-take-le, take-suc}
 use borrow.Author.Tests.{lt-ltb, le-leb, eq-eqb}
@@ -20,8 +20,10 @@ use Rattle.packet.specs.declared.csrc.Csrc.{Csrc}
 use Rattle.octets.specs.Put.{optional, words, list_bytes}
 use Rattle.octets.specs.PutLaws.{words_take}
 use Rattle.fields.specs.declared.place.GotList.{GotList}
-use Rattle.fields.specs.Place.{good, step, got8, got16, got32}
-use Rattle.fields.specs.Next.{next, read_payload, read_version, next_byte, next_word, next_long, next_delta16, next_delta32}
+use Rattle.fields.specs.declared.place.Got.{Got}
+use Rattle.fields.specs.Place.{good}
+use Rattle.fields.specs.Next.{next, next_as, read_payload, read_version, next_byte, next_word, next_long, next_delta16}
+use Rattle.fields.specs.Next.{next_delta32}
 use Rattle.fields.specs.Next.{next_payload, next_version, next_list}
 
 -- what is left past xs
@@ -30,13 +32,17 @@ left-past s at xs l e = left_after s at (xs ++ l) e (length xs) ∙ drop-append_
 
 ---- next
 
+-- a step that gives v where the field was sent, and stands past it
+abbrev pub stepped : (past : ℕ) → Bool → (v : ℕ) → Got ℕ
+stepped past w v = record { place = good past; field = then_some w v }
+
 -- where the reader takes what was written for v, the step gives v and stands past it
-pub next-written : (read : ℕ → Reading) (at : ℕ) (w : Bool) (v : ℕ) (bs : List ℕ) → cond w v 0 ≡ v
+pub next-written : (read : ℕ → Reading) (at : ℕ) (w : Bool) (v : ℕ) (bs : List ℕ)
     → (w ≡ true → read at ≡ accepted v (at + length bs))
-    → next read (good at) w ≡ step (good (at + length (optional w bs))) w v
-unfolding next
-next-written read at true v bs b h = rw (h refl)
-next-written read at false v bs b h = rw (← b, add-zero)
+    → next read (good at) w ≡ stepped (at + length (optional w bs)) w v
+unfolding next_as
+next-written read at true v bs h = rw (h refl)
+next-written read at false v bs h = rw add-zero
 
 ---- fields whose form is judged
 
@@ -59,53 +65,52 @@ left-sent : (s : List ℕ) (at : ℕ) (w : Bool) (bs l : List ℕ) → drop at s
 left-sent s at true bs l e t = e
 left-sent s at false bs l e t = cc
 
-module _ (s : List ℕ) (at : ℕ) (w : Bool) (v : ℕ) (l : List ℕ) (blank : cond w v 0 ≡ v) where
+module _ (s : List ℕ) (at : ℕ) (w : Bool) (v : ℕ) (l : List ℕ) where
   pub next_byte-written : drop at s ≡ optional w (v ∷ []) ++ l
-      → next_byte s (good at) w ≡ got8 (step (good (at + length (optional w (v ∷ [])))) w v)
+      → next_byte s (good at) w ≡ stepped (at + length (optional w (v ∷ []))) w v
   unfolding next_byte
   next_byte-written e =
-      ap got8 (next-written (read_byte s) at w v (v ∷ []) blank (λ t. read_byte-written s at v l (left-sent s at w (v ∷ []) l e t)))
+      next-written (read_byte s) at w v (v ∷ []) (λ t. read_byte-written s at v l (left-sent s at w (v ∷ []) l e t))
 
   pub next_word-written : v < 2 ^ 16 → drop at s ≡ optional w (big_endian 2 v) ++ l
-      → next_word s (good at) w ≡ got16 (step (good (at + length (optional w (big_endian 2 v)))) w v)
+      → next_word s (good at) w ≡ stepped (at + length (optional w (big_endian 2 v))) w v
   unfolding next_word
   next_word-written h e =
-      ap got16 (next-written (read_word s) at w v (big_endian 2 v) blank
-      (λ t. read_word-written s at v l h (left-sent s at w (big_endian 2 v) l e t)))
+      next-written (read_word s) at w v (big_endian 2 v)
+      (λ t. read_word-written s at v l h (left-sent s at w (big_endian 2 v) l e t))
 
   pub next_long-written : v < 2 ^ 32 → drop at s ≡ optional w (big_endian 4 v) ++ l
-      → next_long s (good at) w ≡ got32 (step (good (at + length (optional w (big_endian 4 v)))) w v)
+      → next_long s (good at) w ≡ stepped (at + length (optional w (big_endian 4 v))) w v
   unfolding next_long
   next_long-written h e =
-      ap got32 (next-written (read_long s) at w v (big_endian 4 v) blank
-      (λ t. read_long-written s at v l h (left-sent s at w (big_endian 4 v) l e t)))
+      next-written (read_long s) at w v (big_endian 4 v)
+      (λ t. read_long-written s at v l h (left-sent s at w (big_endian 4 v) l e t))
 
   pub next_delta16-written : v < 2 ^ 16 → drop at s ≡ optional w (code_of 16 v) ++ l
-      → next_delta16 s (good at) w ≡ got16 (step (good (at + length (optional w (code_of 16 v)))) w v)
+      → next_delta16 s (good at) w ≡ stepped (at + length (optional w (code_of 16 v))) w v
   unfolding next_delta16
   next_delta16-written h e =
-      ap got16 (next-written (read_delta 16 s) at w v (code_of 16 v) blank
-      (λ t. read_delta-16 s at v l h (left-sent s at w (code_of 16 v) l e t)))
+      next-written (read_delta 16 s) at w v (code_of 16 v)
+      (λ t. read_delta-16 s at v l h (left-sent s at w (code_of 16 v) l e t))
 
   pub next_delta32-written : v < 2 ^ 32 → (w ≡ true → has_code 32 v ≡ true) → drop at s ≡ optional w (code_of 32 v) ++ l
-      → next_delta32 s (good at) w ≡ got32 (step (good (at + length (optional w (code_of 32 v)))) w v)
+      → next_delta32 s (good at) w ≡ stepped (at + length (optional w (code_of 32 v))) w v
   unfolding next_delta32
   next_delta32-written h c e =
-      ap got32 (next-written (read_delta 32 s) at w v (code_of 32 v) blank
-      (λ t. read_delta-32 s at v l h (c t) (left-sent s at w (code_of 32 v) l e t)))
+      next-written (read_delta 32 s) at w v (code_of 32 v)
+      (λ t. read_delta-32 s at v l h (c t) (left-sent s at w (code_of 32 v) l e t))
 
   pub next_payload-written : v < 128 → drop at s ≡ optional w (v ∷ []) ++ l
-      → next_payload s (good at) w ≡ got8 (step (good (at + length (optional w (v ∷ [])))) w v)
+      → next_payload s (good at) w ≡ stepped (at + length (optional w (v ∷ []))) w v
   unfolding next_payload
   next_payload-written h e =
-      ap got8 (next-written (read_payload s) at w v (v ∷ []) blank
-      (λ t. read_payload-written s at v l h (left-sent s at w (v ∷ []) l e t)))
+      next-written (read_payload s) at w v (v ∷ [])
+      (λ t. read_payload-written s at v l h (left-sent s at w (v ∷ []) l e t))
 
 pub next_version-written : (s : List ℕ) (at v : ℕ) (l : List ℕ) → v / 64 ≡ 2 → 11 ≤ length l → drop at s ≡ v ∷ l
-    → next_version s (good at) ≡ got8 (step (good (at + 1)) true v)
+    → next_version s (good at) ≡ stepped (at + 1) true v
 unfolding next_version
-next_version-written s at v l h k e = ap got8 (next-written (read_version s) at true v (v ∷ []) refl
-    (λ t. read_version-written s at v l h k e))
+next_version-written s at v l h k e = next-written (read_version s) at true v (v ∷ []) (λ t. read_version-written s at v l h k e)
 
 ---- the CSRC list
 
@@ -140,7 +145,7 @@ module _ (s : List ℕ) (at : ℕ) (ws : List ℕ) (fifteen : length ws ≡ 15) 
       let o = at + length (words (take n ws)) in
       rw (
         ih,
-        next_long-written s o true x l refl (fit n) (left-past s at (words (take n ws)) (big_endian 4 x ++ l) e),
+        next_long-written s o true x l (fit n) (left-past s at (words (take n ws)) (big_endian 4 x ++ l) e),
         filled_more ws n fifteen h,
         words-suc ws n (omega arith),
         length-append (words (take n ws)) (big_endian 4 x),

@@ -1,11 +1,9 @@
 -- Iarwennol. A reading of optional fields from left to right: what has become of it, where it stands, and what one step gives.
 -- Used by the steps (Next) and by the readers of the link layouts (links).
-use Rattle.std.specs.Prelude.{ℕ, Bool, false}
+use Rattle.std.specs.Prelude.{ℕ, Option, Some, None, unwrap_or}
 use Rattle.packet.specs.Refusal.{verdict_of}
 use Rattle.fields.specs.declared.place.Place.{Place}
-use Rattle.fields.specs.declared.place.Got8.{Got8}
-use Rattle.fields.specs.declared.place.Got16.{Got16}
-use Rattle.fields.specs.declared.place.Got32.{Got32}
+use Rattle.fields.specs.declared.place.Got.{Got}
 
 -- a reading that stands at a place, with the number of the refusal there (rule 3.1), and one that was not refused
 abbrev pub stopped : (at number : ℕ) → Place
@@ -14,24 +12,14 @@ stopped at number = record { verdict = verdict_of number; cursor = record { at =
 abbrev pub good : ℕ → Place
 good at = stopped at 0
 
--- one step: where the reading stands then, whether the field was there, and its value, 0 where it was not
-pub record Step : Type 0 where
-  pub place : Place
-  pub sent : Bool
-  pub value : ℕ
+-- a step that gives a field, and stands past it
+abbrev pub there : {A : Type 0} → (past : ℕ) → A → Got A
+there past v = record { place = good past; field = Some v }
 
-abbrev pub step : Place → Bool → ℕ → Step
-step p sent v = record { place = p; sent = sent; value = v }
+-- a step that gives none
+abbrev pub passed : {A : Type 0} → Place → Got A
+passed p = record { place = p; field = None }
 
-abbrev pub passed : Place → Step
-passed p = step p false 0
-
--- a step as the code's answers hold it
-abbrev pub got8 : Step → Got8
-got8 t = record { place = t.place; field = record { sent = t.sent; value = t.value } }
-
-abbrev pub got16 : Step → Got16
-got16 t = record { place = t.place; field = record { sent = t.sent; value = t.value } }
-
-abbrev pub got32 : Step → Got32
-got32 t = record { place = t.place; field = record { sent = t.sent; value = t.value } }
+-- the number of a field, 0 where it is not there
+abbrev pub or_zero : Option ℕ → ℕ
+or_zero o = unwrap_or o 0

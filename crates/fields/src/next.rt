@@ -1,130 +1,95 @@
 ghost use Rattle.std.specs.Prelude.{◌≡◌, true};
-ghost use Rattle.fields.specs.Next.{next_byte, next_word, next_long, next_delta16, next_delta32, next_payload, next_version};
+ghost use Rattle.codes.specs.Reading.{Reading, said, read_delta};
+ghost use Rattle.codes.specs.Numbers.{forbidden};
+ghost use Rattle.fields.specs.Place.{passed, stopped};
+ghost use Rattle.fields.specs.Next.{next_as, taken, next_payload, next_version};
 
-use crate::place::{
-    Got8, Got16, Got32, Place, none8, none16, none32, stop, there8, there16, there32,
-};
-use codes::cursor::{ReadByte, ReadDelta16, ReadDelta32, ReadLong, ReadWord};
-use packet::refusal::{Refusal, is_accepted};
+use crate::place::{Got, Place, stop};
+use codes::cursor::{Cursor, Read};
+use codes::field::{DeltaField, Field};
+use packet::refusal::Refusal;
+
+// What a reader's answer at a cursor makes of a reading.
+#[tactic(auto, using(crate::proofs::Taken::taken_refused))]
+fn take<T: Field>(cursor: Cursor, read: Read<T>) -> Got<T>
+    ensures { result ≡ taken T.of cursor.at (said T.value read) }
+{
+    match read {
+        Ok((value, past)) => Got {
+            place: Place {
+                verdict: Ok(()),
+                cursor: past,
+            },
+            field: Some(value),
+        },
+        Err(why) => Got {
+            place: stop(cursor, Refusal::from(why)),
+            field: None,
+        },
+    }
+}
+
+// A field that is not wanted, or that stands behind one that was refused.
+fn pass<T>(p: Place) -> Got<T>
+    ensures { result ≡ passed p }
+{
+    Got {
+        place: p,
+        field: None,
+    }
+}
 
 // Each reads the field at p where it is wanted, unless a field before it was refused.
-pub fn next_byte(s: &[u8], p: Place, wanted: bool) -> Got8
-    ensures { result ≡ next_byte s.now p wanted }
+#[tactic(auto, unfolding(crate::specs::Next::next_as))]
+pub fn next<T: Field>(s: &[u8], p: Place, wanted: bool) -> Got<T>
+    ensures { result ≡ next_as T.of (T.reading s.now) p wanted }
 {
-    let found = p.verdict;
-    let cursor = p.cursor;
-    if is_accepted(found) & wanted {
-        match cursor.byte(s) {
-            ReadByte::Byte(value, past) => { there8(past, value) }
-            ReadByte::Cut => { none8(stop(cursor, Refusal::Cut)) }
-        }
+    if p.verdict.is_ok() & wanted {
+        take(p.cursor, p.cursor.field(s))
     } else {
-        none8(p)
+        pass(p)
     }
 }
 
-pub fn next_word(s: &[u8], p: Place, wanted: bool) -> Got16
-    ensures { result ≡ next_word s.now p wanted }
+#[tactic(auto, unfolding(crate::specs::Next::next_as))]
+pub fn next_delta<T: DeltaField>(s: &[u8], p: Place, wanted: bool) -> Got<T>
+    ensures { result ≡ next_as T.of (read_delta T.bits s.now) p wanted }
 {
-    let found = p.verdict;
-    let cursor = p.cursor;
-    if is_accepted(found) & wanted {
-        match cursor.word(s) {
-            ReadWord::Word(value, past) => { there16(past, value) }
-            ReadWord::Cut => { none16(stop(cursor, Refusal::Cut)) }
-        }
+    if p.verdict.is_ok() & wanted {
+        take(p.cursor, p.cursor.delta(s))
     } else {
-        none16(p)
+        pass(p)
     }
 }
 
-pub fn next_long(s: &[u8], p: Place, wanted: bool) -> Got32
-    ensures { result ≡ next_long s.now p wanted }
+// A field that is there, but not in the form that it must have.
+fn forbid(p: Place) -> Got<u8>
+    ensures { result ≡ passed (stopped p.cursor.at forbidden) }
 {
-    let found = p.verdict;
-    let cursor = p.cursor;
-    if is_accepted(found) & wanted {
-        match cursor.long(s) {
-            ReadLong::Long(value, past) => { there32(past, value) }
-            ReadLong::Cut => { none32(stop(cursor, Refusal::Cut)) }
-        }
-    } else {
-        none32(p)
-    }
-}
-
-pub fn next_delta16(s: &[u8], p: Place, wanted: bool) -> Got16
-    ensures { result ≡ next_delta16 s.now p wanted }
-{
-    let found = p.verdict;
-    let cursor = p.cursor;
-    if is_accepted(found) & wanted {
-        match cursor.delta16(s) {
-            ReadDelta16::Delta(value, past) => { there16(past, value) }
-            ReadDelta16::Cut => { none16(stop(cursor, Refusal::Cut)) }
-            ReadDelta16::Unused => { none16(stop(cursor, Refusal::UnusedCode)) }
-        }
-    } else {
-        none16(p)
-    }
-}
-
-pub fn next_delta32(s: &[u8], p: Place, wanted: bool) -> Got32
-    ensures { result ≡ next_delta32 s.now p wanted }
-{
-    let found = p.verdict;
-    let cursor = p.cursor;
-    if is_accepted(found) & wanted {
-        match cursor.delta32(s) {
-            ReadDelta32::Delta(value, past) => { there32(past, value) }
-            ReadDelta32::Cut => { none32(stop(cursor, Refusal::Cut)) }
-            ReadDelta32::Unused => { none32(stop(cursor, Refusal::UnusedCode)) }
-        }
-    } else {
-        none32(p)
-    }
+    pass(stop(p.cursor, Refusal::Forbidden))
 }
 
 // A payload type: its top bit must be 0.
-pub fn next_payload(s: &[u8], p: Place, wanted: bool) -> Got8
+pub fn next_payload(s: &[u8], p: Place, wanted: bool) -> Got<u8>
     ensures { result ≡ next_payload s.now p wanted }
 {
-    let found = p.verdict;
-    let cursor = p.cursor;
-    if is_accepted(found) & wanted {
-        match cursor.byte(s) {
-            ReadByte::Byte(value, past) => {
-                if value >> 7 == 0 {
-                    return there8(past, value);
-                }
-                none8(stop(cursor, Refusal::Forbidden))
-            }
-            ReadByte::Cut => { none8(stop(cursor, Refusal::Cut)) }
-        }
-    } else {
-        none8(p)
+    let payload = next::<u8>(s, p, wanted);
+    match payload.field {
+        Some(value) if value >> 7 != 0 => forbid(p),
+        _ => payload,
     }
 }
 
 // The first byte of an RTP header: all twelve fixed bytes must be there, and the version must be 2.
-pub fn next_version(s: &[u8], p: Place) -> Got8
+pub fn next_version(s: &[u8], p: Place) -> Got<u8>
     ensures { result ≡ next_version s.now p }
 {
-    let found = p.verdict;
-    let cursor = p.cursor;
-    if !is_accepted(found) {
-        return none8(p);
+    if p.verdict.is_ok() & !p.cursor.has(s, 12) {
+        return pass(stop(p.cursor, Refusal::Cut));
     }
-    if !cursor.has(s, 12) {
-        return none8(stop(cursor, Refusal::Cut));
-    }
-    match cursor.byte(s) {
-        ReadByte::Byte(value, past) => {
-            if value >> 6 == 2 {
-                return there8(past, value);
-            }
-            none8(stop(cursor, Refusal::Forbidden))
-        }
-        ReadByte::Cut => { none8(stop(cursor, Refusal::Cut)) }
+    let version = next::<u8>(s, p, true);
+    match version.field {
+        Some(value) if value >> 6 != 2 => forbid(p),
+        _ => version,
     }
 }

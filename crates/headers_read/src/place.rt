@@ -3,21 +3,21 @@ ghost use Rattle.codes.specs.Reading.{word_at, long_at};
 ghost use Rattle.headers.specs.Header.{count_at};
 
 use crate::rtp::split_first;
-use codes::cursor::{be16, be32};
+use codes::field::Field;
 
 // The numbers that stand at a place of a packet that is known to be long enough.
 pub fn word_at(p: &[u8], at: usize) -> u16
     requires { at + 2 ≤ length p.now }
     ensures { result ≡ word_at p.now at }
 {
-    be16(p[at], p[at + 1])
+    u16::at(p, at)
 }
 
 pub fn long_at(p: &[u8], at: usize) -> u32
     requires { at + 4 ≤ length p.now }
     ensures { result ≡ long_at p.now at }
 {
-    be32(p[at], p[at + 1], p[at + 2], p[at + 3])
+    u32::at(p, at)
 }
 
 // The CSRC count of an RTP header that begins at a place.

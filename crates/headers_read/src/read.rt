@@ -11,12 +11,9 @@ pub fn read_list(s: &[u8], at: usize, n: u8) -> Csrc
     requires { (n ≤ 15) × (at + 4 * n ≤ length s.now) }
     ensures { result ≡ list_at s.now at n }
 {
-    let size = n as usize;
     let mut list = [0u32; 15];
-    let mut i = 0;
-    while i < size {
+    for i in 0..n as usize {
         list[i] = long_at(s, at + 4 * i);
-        i += 1;
     }
     Csrc {
         count: n,

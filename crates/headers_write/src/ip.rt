@@ -3,7 +3,7 @@ ghost use Rattle.octets.specs.Put.{Wrote};
 ghost use Rattle.headers.specs.Header.{ip_front, ip_back};
 ghost use Rattle.packet.specs.Ranges.{Narrow};
 
-use octets::put::{put8, put16, put32};
+use octets::put::put;
 use packet::header::Header;
 
 // The word of flags and fragment offset: reserved bit and DF, all else 0.
@@ -21,11 +21,11 @@ pub fn put_ip_front(out: &mut [u8], at: usize, h: Header, size: u16) -> usize
 {
     let ip = h.ip;
     let fragment = fragment_word(ip.flags);
-    let at = put8(out, at, 0x45);
-    let at = put8(out, at, ip.tos);
-    let at = put16(out, at, size);
-    let at = put16(out, at, ip.id);
-    put16(out, at, fragment)
+    let at = put(out, at, 0x45u8);
+    let at = put(out, at, ip.tos);
+    let at = put(out, at, size);
+    let at = put(out, at, ip.id);
+    put(out, at, fragment)
 }
 
 // The rest of it, with the checksum as it is given.
@@ -35,9 +35,9 @@ pub fn put_ip_back(out: &mut [u8], at: usize, h: Header, checksum: u16) -> usize
 {
     let ip = h.ip;
     let flow = h.flow;
-    let at = put8(out, at, ip.ttl);
-    let at = put8(out, at, 17);
-    let at = put16(out, at, checksum);
-    let at = put32(out, at, flow.source);
-    put32(out, at, flow.destination)
+    let at = put(out, at, ip.ttl);
+    let at = put(out, at, 17u8);
+    let at = put(out, at, checksum);
+    let at = put(out, at, flow.source);
+    put(out, at, flow.destination)
 }

@@ -7,7 +7,7 @@ ghost use Rattle.headers_write.specs.Summed.{pseudo_bytes, summed_bytes};
 ghost use Rattle.packet.specs.Ranges.{Narrow};
 
 use crate::write::{put_rtp, put_udp};
-use octets::put::{put_list, put16, put32};
+use octets::put::{put, put_list};
 use octets::sum::sum;
 use packet::header::Header;
 
@@ -17,10 +17,10 @@ fn put_pseudo(out: &mut [u8], at: usize, h: Header, size: u16) -> usize
     ensures { (result ≡ at + 12) × Wrote out.old out.new at result (pseudo_bytes size h) }
 {
     let flow = h.flow;
-    let at = put32(out, at, flow.source);
-    let at = put32(out, at, flow.destination);
-    let at = put16(out, at, 17);
-    put16(out, at, size)
+    let at = put(out, at, flow.source);
+    let at = put(out, at, flow.destination);
+    let at = put(out, at, 17u16);
+    put(out, at, size)
 }
 
 // The sum over what stands before the rest of a packet. 92 bytes hold it with the longest CSRC list.

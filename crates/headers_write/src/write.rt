@@ -8,7 +8,7 @@ use crate::checksum::ip_checksum;
 use crate::ip::{put_ip_back, put_ip_front};
 use crate::rtp::{pack_first, pack_second};
 use headers::rtp::{RtpFirst, RtpSecond};
-use octets::put::{put_list, put8, put16, put32};
+use octets::put::{put, put_list};
 use packet::header::Header;
 
 pub fn put_udp(out: &mut [u8], at: usize, h: Header, size: u16) -> usize
@@ -16,10 +16,10 @@ pub fn put_udp(out: &mut [u8], at: usize, h: Header, size: u16) -> usize
     ensures { (result ≡ at + 8) × Wrote out.old out.new at result (udp_bytes size h) }
 {
     let flow = h.flow;
-    let at = put16(out, at, flow.sport);
-    let at = put16(out, at, flow.dport);
-    let at = put16(out, at, size);
-    put16(out, at, h.checksum)
+    let at = put(out, at, flow.sport);
+    let at = put(out, at, flow.dport);
+    let at = put(out, at, size);
+    put(out, at, h.checksum)
 }
 
 // The twelve fixed bytes of an RTP header.
@@ -40,11 +40,11 @@ pub fn put_rtp(out: &mut [u8], at: usize, h: Header) -> usize
         marker: h.marker,
         payload: rtp.payload,
     });
-    let at = put8(out, at, first);
-    let at = put8(out, at, second);
-    let at = put16(out, at, rtp.sequence);
-    let at = put32(out, at, rtp.timestamp);
-    put32(out, at, flow.ssrc)
+    let at = put(out, at, first);
+    let at = put(out, at, second);
+    let at = put(out, at, rtp.sequence);
+    let at = put(out, at, rtp.timestamp);
+    put(out, at, flow.ssrc)
 }
 
 // A header with the length fields and the IP checksum as they are given.

@@ -3,7 +3,7 @@
 use Rattle.std.specs.Prelude.{ℕ, ◌+◌, ◌*◌, ◌%◌, ◌≡◌, List}
 use Rattle.crtp.specs.Face as crtp
 use Rattle.crtp.specs.Face.{Lent, CompressorOutcome, DecompressorOutcome, compressor_of, decompressor_of}
-use Rattle.endpoint.specs.declared.answer.Outcome.{Outcome}
+use Rattle.endpoint.specs.Answer.{Outcome}
 use Rattle.endpoint.specs.Answer as endpoint
 use Rattle.endpoint.specs.declared.answer.Endpoint.{Endpoint}
 use Rattle.endpoint.specs.Lent.{Ends, ends, endpoint_of}

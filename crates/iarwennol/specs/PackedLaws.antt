@@ -4,7 +4,7 @@ use Rattle.std.specs.Prelude.{ℕ, ◌≡◌, refl, List}
 use Rattle.std.proofs.Common.{sym, ap, ◌∙◌, add-zero}
 use Rattle.crtp.specs.Face as crtp
 use Rattle.crtp.specs.Face.{Lent, CompressorOutcome, DecompressorOutcome, CompressorGives, DecompressorGives, decompressor_of}
-use Rattle.endpoint.specs.declared.answer.Outcome.{Outcome}
+use Rattle.endpoint.specs.Answer.{Outcome}
 use Rattle.endpoint.specs.Answer as endpoint
 use Rattle.endpoint.specs.Lent.{Ends, Gives}
 use Rattle.iarwennol.specs.Packed.{packed, sent_packed, given_packed, answer_packed, SentAs, GivenAs, AnsweredAs}

@@ -4,7 +4,7 @@ ghost use Rattle.crtp.specs.Face.{refusal_number};
 ghost use Rattle.iarwennol.specs.Packed.{packed, sent_packed, given_packed, answer_packed};
 
 use crtp::{CompressorOutcome, DecompressorOutcome, Refusal};
-use endpoint::Outcome;
+use endpoint::{Done, Outcome};
 
 fn number_of(r: Refusal) -> u64
     ensures { (result ≡ refusal_number r) × (result < 256) }
@@ -36,8 +36,8 @@ pub fn pack_sent(o: CompressorOutcome) -> u64
     ensures { result ≡ sent_packed o }
 {
     match o {
-        CompressorOutcome::Accepted(kind, length) => accepted(kind, length),
-        CompressorOutcome::Refused(r) => number_of(r),
+        Ok((kind, length)) => accepted(kind, length),
+        Err(r) => number_of(r),
     }
 }
 
@@ -45,8 +45,8 @@ pub fn pack_given(o: DecompressorOutcome) -> u64
     ensures { result ≡ given_packed o }
 {
     match o {
-        DecompressorOutcome::Accepted(length) => accepted(0, length),
-        DecompressorOutcome::Refused(r) => number_of(r),
+        Ok(length) => accepted(0, length),
+        Err(r) => number_of(r),
     }
 }
 
@@ -54,11 +54,11 @@ pub fn pack_answer(o: Outcome) -> u64
     ensures { result ≡ answer_packed o }
 {
     match o {
-        Outcome::Opened => 0,
-        Outcome::Sent(kind, length) => accepted(kind, length),
-        Outcome::Rebuilt(length) => accepted(0, length),
-        Outcome::Requested => 0,
-        Outcome::Reported(length) => accepted(0, length),
-        Outcome::Refused(r) => number_of(r),
+        Ok(Done::Opened) => 0,
+        Ok(Done::Sent(kind, length)) => accepted(kind, length),
+        Ok(Done::Rebuilt(length)) => accepted(0, length),
+        Ok(Done::Requested) => 0,
+        Ok(Done::Reported(length)) => accepted(0, length),
+        Err(r) => number_of(r),
     }
 }

@@ -12,7 +12,6 @@ use links_write::cu::{cu_size, put_cu};
 use packet::csrc::no_list;
 use packet::header::{Flow, Header, Ip, Rtp};
 use packet::parts::Parts;
-use packet::sent::{Sent8, Sent16, sent_if16, sent_if32};
 use refresh::cs::{put_count, put_record};
 use refresh::fh::put_fh;
 use std::io;
@@ -26,10 +25,8 @@ fn print_byte(rt: &impl Print, b: u8) -> io::Result<()> {
 }
 
 fn print_bytes(rt: &impl Print, s: &[u8]) -> io::Result<()> {
-    let mut i = 0;
-    while i < s.len() {
-        print_byte(rt, s[i])?;
-        i += 1;
+    for b in s {
+        print_byte(rt, *b)?;
     }
     text(rt, b"\n")
 }
@@ -38,7 +35,6 @@ fn print_bytes(rt: &impl Print, s: &[u8]) -> io::Result<()> {
 fn header() -> Header
     ensures { Narrow result }
 {
-    let list = no_list();
     Header {
         flow: Flow {
             source: 0x0A000001,
@@ -60,7 +56,7 @@ fn header() -> Header
             sequence: 1,
             timestamp: 10,
         },
-        csrc: list,
+        csrc: no_list(),
         marker: false,
         checksum: 0,
     }
@@ -70,34 +66,18 @@ fn header() -> Header
 fn parts(marker: bool, jump: bool) -> Parts
     ensures { result.csrc.count ≤ 15 }
 {
-    let id = sent_if16(jump, 0x1234);
-    let timestamp = sent_if32(jump, 40);
-    let dts = sent_if32(jump, 10);
-    let list = no_list();
     Parts {
         marker: marker,
         checksum: 0,
-        id: id,
-        sequence: Sent16 {
-            sent: false,
-            value: 0,
-        },
-        timestamp: timestamp,
-        payload: Sent8 {
-            sent: false,
-            value: 0,
-        },
-        did: Sent16 {
-            sent: false,
-            value: 0,
-        },
-        dsn: Sent16 {
-            sent: false,
-            value: 0,
-        },
-        dts: dts,
+        id: jump.then_some(0x1234),
+        sequence: None,
+        timestamp: jump.then_some(40),
+        payload: None,
+        did: None,
+        dsn: None,
+        dts: jump.then_some(10),
         listed: jump,
-        csrc: list,
+        csrc: no_list(),
     }
 }
 

@@ -1,6 +1,6 @@
 -- Iarwennol. Laws of COMPRESSED_RTP: what was encoded is decoded, whatever comes after it. Assume nothing.
 -- Used by the theorem on lists of calls (crtp) and by links_write.
-use Rattle.std.specs.Prelude.{ℕ, ◌+◌, ◌<◌, ◌≡◌, Bool, List, ◌∷◌, ◌++◌, take, drop}
+use Rattle.std.specs.Prelude.{ℕ, ◌+◌, ◌<◌, ◌≡◌, Bool, None, List, ◌∷◌, ◌++◌, take, drop}
 use Rattle.std.proofs.Math.Path.{refl}
 use Rattle.std.proofs.Common.{sym, ap, ◌∙◌, arith}
 use Rattle.std.proofs.Math.Bool.{true, false}
@@ -18,15 +18,13 @@ use Rattle.octets.specs.Put.{optional, list_bytes}
 use Rattle.octets.specs.PutLaws.{AllBytes-optional, AllBytes-words}
 use Rattle.fields.specs.declared.place.Place.{Place}
 use Rattle.fields.specs.Place.{good}
-use Rattle.fields.specs.NextLaws.{left-past, next_byte-written, next_word-written}
-use Rattle.fields.specs.NextLaws.{next_delta16-written, next_delta32-written, next_list-written}
+use Rattle.fields.specs.NextLaws.{left-past, next_byte-written, next_word-written, next_list-written}
 use Rattle.links.specs.declared.head.ReadParts.{ReadParts}
 use Rattle.links.specs.declared.cr.CrFlags.{CrFlags}
 use Rattle.links.specs.declared.cr.Second.{Second}
 use Rattle.links.specs.declared.cr.Deltas.{Deltas}
-use Rattle.links.specs.Sent.{delta16, delta32, none8, none16, none32}
-use Rattle.links.proofs.SentLaws.{length_three, append-three, append-four, unsent8}
-use Rattle.links.proofs.SentLaws.{unsent16, unsent32, AllBytes-delta16, AllBytes-delta32}
+use Rattle.links.specs.Sent.{delta}
+use Rattle.links.proofs.SentLaws.{length_three, append-three, append-four, delta16-back, delta32-back, carried-back, AllBytes-delta}
 use Rattle.links.specs.Head.{head_bytes, context_of, head_of}
 use Rattle.links.proofs.HeadLaws.{context_of-written, head_of-written}
 use Rattle.links.specs.Cr.{cr_flags_of, cr_flags_bits, cr_sent, cr_first, cr_flags, cr_second_byte, second_bytes, deltas_bytes}
@@ -65,7 +63,7 @@ module _ (s : List ℕ) (at : ℕ) (h : Parts) (l : List ℕ) (small : h.csrc.co
   unfolding second_of
   second-there e =
       rw (
-        next_byte-written s at true (cr_second_byte h) l refl e,
+        next_byte-written s at true (cr_second_byte h) l e,
         flags_of-byte_of (cr_flags_bits h.csrc.count (cr_sent h)) small,
         second_with-true,
       )
@@ -73,7 +71,7 @@ module _ (s : List ℕ) (at : ℕ) (h : Parts) (l : List ℕ) (small : h.csrc.co
   second_none : 0 ≡ h.csrc.count → all_four (cr_sent h) ≡ false → drop at s ≡ l
       → second_of s (good at) (cr_first false (cr_sent h)) ≡ effective (good (at + 0)) false h
   unfolding second_of
-  second_none z q e = rw (q, next_byte-written s at false 0 l refl e, second_with-false, ← z)
+  second_none z q e = rw (q, next_byte-written s at false 0 l e, second_with-false, ← z)
 
   second_of-second_bytes : (listed : Bool) → (listed ≡ false → 0 ≡ h.csrc.count) → all_four (cr_first listed (cr_sent h)) ≡ listed
       → drop at s ≡ second_bytes listed h ++ l
@@ -91,17 +89,16 @@ module _ (h : Parts) (carried : Bool) (fit : PartsFit carried h) where
       → deltas_of s (good at) (cr_sent h) ≡ deltas (at + length (deltas_bytes h)) h
   unfolding deltas_of
   deltas_of-deltas_bytes s at l e =
-      let A = delta16 h.did in
-      let B = delta16 h.dsn in
-      let C = delta32 h.dts in
+      let A = delta 16 h.did in
+      let B = delta 16 h.dsn in
+      let C = delta 32 h.dts in
       let e0 = e ∙ append-three A B C l in
       let e1 = left-past s at A (B ++ (C ++ l)) e0 in
       let e2 = left-past s (at + length A) B (C ++ l) e1 in
       rw (
-        next_delta16-written s at h.did.sent h.did.value (B ++ (C ++ l)) fit.did.blank fit.did.fits e0,
-        next_delta16-written s (at + length A) h.dsn.sent h.dsn.value (C ++ l) fit.dsn.blank fit.dsn.fits e1,
-        next_delta32-written s (at + length A + length B) h.dts.sent h.dts.value l
-            fit.dts.blank fit.dts.fits fit.coded e2,
+        delta16-back s at (B ++ (C ++ l)) h.did fit.did e0,
+        delta16-back s (at + length A) (C ++ l) h.dsn fit.dsn e1,
+        delta32-back s (at + length A + length B) l h.dts fit.dts fit.coded e2,
         length_three A B C at,
       )
 
@@ -109,7 +106,7 @@ module _ (h : Parts) (carried : Bool) (fit : PartsFit carried h) where
 
 -- parts that a CR carries are what its reader makes of them
 abbrev Carried : Parts → Type 0
-Carried h = (none16 ≡ h.id) × (none16 ≡ h.sequence) × (none32 ≡ h.timestamp) × (none8 ≡ h.payload)
+Carried h = (None ≡ h.id) × (None ≡ h.sequence) × (None ≡ h.timestamp) × (None ≡ h.payload)
 
 cr-same : (h : Parts) → Carried h → (p : Place)
     → ◌≡◌ {A = ReadParts}
@@ -118,10 +115,10 @@ cr-same : (h : Parts) → Carried h → (p : Place)
       parts = record {
         marker = h.marker;
         checksum = h.checksum;
-        id = none16;
-        sequence = none16;
-        timestamp = none32;
-        payload = none8;
+        id = None;
+        sequence = None;
+        timestamp = None;
+        payload = None;
         did = h.did;
         dsn = h.dsn;
         dts = h.dts;
@@ -149,12 +146,7 @@ cr-same h c p = λ i. record {
 
 module _ (context link : ℕ) (carried : Bool) (h : Parts) (fits : CrFits link carried h) where
   unsent : Carried h
-  unsent = (
-    unsent16 16 h.id fits.id fits.parts.id,
-    unsent16 16 h.sequence fits.sequence fits.parts.sequence,
-    unsent32 32 h.timestamp fits.timestamp fits.parts.timestamp,
-    unsent8 7 h.payload fits.payload fits.parts.payload,
-  )
+  unsent = (sym fits.id, sym fits.sequence, sym fits.timestamp, sym fits.payload)
 
   cr_rest-bytes : (s : List ℕ) (at : ℕ) (l : List ℕ) → drop at s ≡ deltas_bytes h ++ (list_bytes h.csrc ++ l)
       → cr_rest s h.checksum (effective (good at) h.listed h)
@@ -193,8 +185,8 @@ module _ (context link : ℕ) (carried : Bool) (h : Parts) (fits : CrFits link c
       let e3 = left-past s 2 K (L ++ (D ++ (E ++ rest))) e2 in
       let e4 = left-past s (2 + length K) L (D ++ (E ++ rest)) e3 in
       rw (
-        next_word-written s 2 carried h.checksum (L ++ (D ++ (E ++ rest)))
-            fits.parts.checksum.blank fits.parts.checksum.fits e2,
+        next_word-written s 2 carried h.checksum (L ++ (D ++ (E ++ rest))) fits.parts.checksum.fits e2,
+        carried-back carried h.checksum fits.parts.checksum.blank,
         second_of-second_bytes s (2 + length K) h (D ++ (E ++ rest)) (omega (arith, fits.parts.list.count)) h.listed
             unlisted-count
             (four-listed h.listed (cr_sent h) fits.second) e3,
@@ -235,8 +227,8 @@ module _ (context link : ℕ) (carried : Bool) (h : Parts) (fits : CrFits link c
       AllBytes-optional h.listed
       (more (byte_of-lt (cr_flags_bits h.csrc.count (cr_sent h)) (omega (arith, fits.parts.list.count))) none)
       ) (
-      AllBytes-append (AllBytes-append (AllBytes-delta16 h.did)
-      (AllBytes-append (AllBytes-delta16 h.dsn) (AllBytes-delta32 h.dts))) (
+      AllBytes-append (AllBytes-append (AllBytes-delta 16 h.did)
+      (AllBytes-append (AllBytes-delta 16 h.dsn) (AllBytes-delta 32 h.dts))) (
       AllBytes-words (take h.csrc.count h.csrc.words)
       )
       )

@@ -1,6 +1,6 @@
 -- Iarwennol. Laws of COMPRESSED_UDP with F: what was encoded is decoded, whatever comes after it. Assume nothing.
 -- Used by the theorem on lists of calls (crtp) and by links_write.
-use Rattle.std.specs.Prelude.{ℕ, ◌+◌, ◌<◌, ◌≡◌, Bool, take, drop}
+use Rattle.std.specs.Prelude.{ℕ, ◌+◌, ◌<◌, ◌≡◌, Bool, None, take, drop}
 use Rattle.std.proofs.Math.Path.{refl}
 use Rattle.std.proofs.Common.{sym, ap, ◌∙◌, arith}
 use Rattle.std.proofs.Math.Bool.{true}
@@ -16,15 +16,13 @@ use Rattle.packet.specs.Ranges.{PartsFit}
 use Rattle.octets.specs.Put.{optional, list_bytes, words}
 use Rattle.octets.specs.PutLaws.{AllBytes-optional, AllBytes-words}
 use Rattle.fields.specs.Place.{good}
-use Rattle.fields.specs.NextLaws.{left-past, next_byte-written, next_word-written}
-use Rattle.fields.specs.NextLaws.{next_long-written, next_payload-written, next_list-written}
-use Rattle.fields.specs.NextLaws.{next_delta16-written, next_delta32-written}
+use Rattle.fields.specs.NextLaws.{left-past, next_byte-written, next_word-written, next_list-written}
 use Rattle.links.specs.declared.cu.CuSecond.{CuSecond}
 use Rattle.links.specs.declared.cu.Changes.{Changes}
 use Rattle.links.specs.declared.cu.Values.{Values}
-use Rattle.links.specs.Sent.{whole8, whole16, whole32, delta16, delta32, none16}
-use Rattle.links.proofs.SentLaws.{length-four, append-four, unsent16}
-use Rattle.links.proofs.SentLaws.{AllBytes-whole8, AllBytes-whole16, AllBytes-whole32, AllBytes-delta16, AllBytes-delta32}
+use Rattle.links.specs.Sent.{whole, whole_byte, delta}
+use Rattle.links.proofs.SentLaws.{length-four, append-four, word-back, long-back, payload-back, delta16-back, delta32-back}
+use Rattle.links.proofs.SentLaws.{carried-back, zero-fits, AllBytes-whole, AllBytes-whole_byte, AllBytes-delta}
 use Rattle.links.proofs.FitsLaws.{CuFits}
 use Rattle.links.specs.Head.{head_bytes, context_of, head_of}
 use Rattle.links.proofs.HeadLaws.{context_of-written, head_of-written}
@@ -48,20 +46,19 @@ module _ (h : Parts) (carried : Bool) (fit : PartsFit carried h) where
   unfolding changes_of
   changes_of-changes_bytes s at values l e =
       let A = optional carried (big_endian 2 h.checksum) in
-      let B = delta16 h.did in
-      let C = delta32 h.dts in
-      let D = whole16 h.id in
+      let B = delta 16 h.did in
+      let C = delta 32 h.dts in
+      let D = whole 2 h.id in
       let e0 = e ∙ append-four A B C D l in
       let e1 = left-past s at A (B ++ (C ++ (D ++ l))) e0 in
       let e2 = left-past s (at + length A) B (C ++ (D ++ l)) e1 in
       let e3 = left-past s (at + length A + length B) C (D ++ l) e2 in
-      let at3 = at + length A + length B + length C in
       rw (
-        next_word-written s at carried h.checksum (B ++ (C ++ (D ++ l))) fit.checksum.blank fit.checksum.fits e0,
-        next_delta16-written s (at + length A) h.did.sent h.did.value (C ++ (D ++ l)) fit.did.blank fit.did.fits e1,
-        next_delta32-written s (at + length A + length B) h.dts.sent h.dts.value (D ++ l)
-            fit.dts.blank fit.dts.fits fit.coded e2,
-        next_word-written s at3 h.id.sent h.id.value l fit.id.blank fit.id.fits e3,
+        next_word-written s at carried h.checksum (B ++ (C ++ (D ++ l))) fit.checksum.fits e0,
+        carried-back carried h.checksum fit.checksum.blank,
+        delta16-back s (at + length A) (C ++ (D ++ l)) h.did fit.did e1,
+        delta32-back s (at + length A + length B) (D ++ l) h.dts fit.dts fit.coded e2,
+        word-back s (at + length A + length B + length C) l h.id fit.id e3,
         length-four A B C D at,
       )
 
@@ -75,21 +72,18 @@ module _ (h : Parts) (carried : Bool) (fit : PartsFit carried h) where
       → values_of s (good at) (cu_second h) ≡ values (at + length (values_bytes h)) h
   unfolding values_of
   values_of-values_bytes s at l e =
-      let A = whole16 h.sequence in
-      let B = whole32 h.timestamp in
-      let C = whole8 h.payload in
+      let A = whole 2 h.sequence in
+      let B = whole 4 h.timestamp in
+      let C = whole_byte h.payload in
       let D = list_bytes h.csrc in
       let e0 = e ∙ append-four A B C D l in
       let e1 = left-past s at A (B ++ (C ++ (D ++ l))) e0 in
       let e2 = left-past s (at + length A) B (C ++ (D ++ l)) e1 in
       let e3 = left-past s (at + length A + length B) C (D ++ l) e2 in
       rw (
-        next_word-written s at h.sequence.sent h.sequence.value (B ++ (C ++ (D ++ l)))
-            fit.sequence.blank fit.sequence.fits e0,
-        next_long-written s (at + length A) h.timestamp.sent h.timestamp.value (C ++ (D ++ l))
-            fit.timestamp.blank fit.timestamp.fits e1,
-        next_payload-written s (at + length A + length B) h.payload.sent h.payload.value (D ++ l)
-            fit.payload.blank fit.payload.fits e2,
+        word-back s at (B ++ (C ++ (D ++ l))) h.sequence fit.sequence e0,
+        long-back s (at + length A) (C ++ (D ++ l)) h.timestamp fit.timestamp e1,
+        payload-back s (at + length A + length B) (D ++ l) h.payload fit.payload e2,
         next_list-written s (at + length A + length B + length C) h.csrc l fit.list e3,
         length-four A B C D at,
       )
@@ -97,7 +91,7 @@ module _ (h : Parts) (carried : Bool) (fit : PartsFit carried h) where
 ---- whole
 
 -- parts that a CU carries are what its reader makes of them
-cu-same : (h : Parts) → none16 ≡ h.dsn → true ≡ h.listed → (a at : ℕ)
+cu-same : (h : Parts) → None ≡ h.dsn → true ≡ h.listed → (a at : ℕ)
     → cu_parts (cu_second h) (changes a h) (values at h) ≡ record { place = good at; parts = h }
 cu-same h d l a at = λ i. record {
   place = good at;
@@ -133,7 +127,7 @@ module _ (context link : ℕ) (carried : Bool) (h : Parts) (fits : CuFits link c
         values_of-values_bytes h carried fits.parts s (3 + length C) l (left-past s 3 C (U ++ l) e),
         length-cu_parts,
       )
-      (cu-same h (unsent16 16 h.dsn fits.dsn fits.parts.dsn) (sym fits.listed) (3 + length C)
+      (cu-same h (sym fits.dsn) (sym fits.listed) (3 + length C)
       (length (cu_bytes context link carried h)))
 
   cu-back : (s rest : List ℕ) → s ≡ cu_bytes context link carried h ++ rest
@@ -146,7 +140,7 @@ module _ (context link : ℕ) (carried : Bool) (h : Parts) (fits : CuFits link c
       let e2 = left-past s 0 (head_bytes context (cu_flags link h)) (g ∷ ((C ++ U) ++ rest)) e in
       let e3 = left-past s 2 (g ∷ []) ((C ++ U) ++ rest) e2 ∙ append_assoc C U rest in
       rw (
-        next_byte-written s 2 true g ((C ++ U) ++ rest) refl e2,
+        next_byte-written s 2 true g ((C ++ U) ++ rest) e2,
         cu_second_of-bits (cu_second h) (omega (arith, fits.parts.list.count)),
       )
       (cu_rest-bytes s rest e3)
@@ -178,14 +172,14 @@ module _ (context link : ℕ) (carried : Bool) (h : Parts) (fits : CuFits link c
   AllBytes-changes : AllBytes (changes_bytes carried h)
   AllBytes-changes =
       AllBytes-append (AllBytes-optional carried (AllBytes-big_endian 2 h.checksum)) (
-      AllBytes-append (AllBytes-delta16 h.did) (AllBytes-append (AllBytes-delta32 h.dts) (AllBytes-whole16 h.id))
+      AllBytes-append (AllBytes-delta 16 h.did) (AllBytes-append (AllBytes-delta 32 h.dts) (AllBytes-whole 2 h.id))
       )
 
   AllBytes-values : AllBytes (values_bytes h)
   AllBytes-values =
-      AllBytes-append (AllBytes-whole16 h.sequence) (
-      AllBytes-append (AllBytes-whole32 h.timestamp) (
-      AllBytes-append (AllBytes-whole8 h.payload (omega (arith, fits.parts.payload.fits)))
+      AllBytes-append (AllBytes-whole 2 h.sequence) (
+      AllBytes-append (AllBytes-whole 4 h.timestamp) (
+      AllBytes-append (AllBytes-whole_byte h.payload (omega (arith, zero-fits h.payload 7 fits.parts.payload)))
       (AllBytes-words (take h.csrc.count h.csrc.words))
       )
       )

@@ -7,26 +7,28 @@ use mathlib.Core.Bool.{Bool, true, false}
 use mathlib.Core.List.{List}
 use native.Mathlib.Omega.{arith}
 use lib.ListN.{length}
+use Rattle.std.specs.Prelude.{IfSome}
 use Rattle.codes.specs.Bytes.{AllBytes}
 use Rattle.codes.specs.Difference.{has_code}
 use Rattle.packet.specs.Ranges.{ListSound, HeaderFits, HeaderSound, Sendable, PartsFit, PartsSound}
-use Rattle.packet.specs.RangesLaws.{range-no_list, sendable-zero}
+use Rattle.packet.specs.RangesLaws.{range-no_list}
 use Rattle.octets.specs.declared.flags.Flags.{Flags}
 use Rattle.octets.specs.Flags.{flags_of}
 use Rattle.headers.specs.declared.rtp.RtpFirst.{RtpFirst}
 use Rattle.headers.specs.Rtp.{rtp_first_of}
 use Rattle.fields.specs.declared.place.Place.{Place}
+use Rattle.fields.specs.Place.{or_zero}
 use Rattle.fields.specs.Next.{next_byte, next_word, next_long, next_delta16, next_version}
 use Rattle.links.specs.declared.cu.CuFlags.{CuFlags}
 use Rattle.links.specs.declared.cu.CuSecond.{CuSecond}
 use Rattle.links.specs.declared.cr.CrFlags.{CrFlags}
 use Rattle.fields.proofs.NextRange.{next_byte-within, next_word-within, next_long-within, next_delta16-within, next_delta32-within}
 use Rattle.fields.proofs.NextRange.{next_payload-within, next_version-within, next_list-within, next_delta32-coded}
-use Rattle.fields.proofs.NextRange.{next_payload-value}
-use Rattle.fields.proofs.NextRange.{next_word-sendable, next_word-wanted, next_long-sendable, next_delta16-sendable}
-use Rattle.fields.proofs.NextRange.{next_delta32-sendable, next_payload-sendable, next_list-sound, next_list-range}
+use Rattle.fields.proofs.NextRange.{next_payload-range, next_word-range, next_word-wanted, next_long-range, next_delta16-range}
+use Rattle.fields.proofs.NextRange.{next_delta32-range, next_list-sound, next_list-range}
 use Rattle.links.specs.declared.cr.Second.{Second}
 use Rattle.links.specs.declared.whole.Fixed.{Fixed}
+use Rattle.links.proofs.SentLaws.{zero-fits}
 use Rattle.links.specs.Cu.{cu_flags_of, cu_second_of, changes_of, values_of, cu_rest, cu_of}
 use Rattle.links.specs.Cr.{cr_flags_of, all_four, second_with, second_of, deltas_of, cr_rest, cr_of}
 use Rattle.links.specs.Whole.{fixed_of, rtp_rest, rtp_of, whole_of}
@@ -34,7 +36,7 @@ use Rattle.links.specs.Whole.{fixed_of, rtp_rest, rtp_of, whole_of}
 module _ (s : List ℕ) where
   ---- CU with F
 
-  changes_of-coded : (p : Place) (f : CuFlags) (carried : Bool) → has_code 32 (changes_of s p f carried).dts.value ≡ true
+  changes_of-coded : (p : Place) (f : CuFlags) (carried : Bool) → IfSome (changes_of s p f carried).dts (λ v. has_code 32 v ≡ true)
   unfolding changes_of
   changes_of-coded p f carried = next_delta32-coded s _ f.dts
 
@@ -47,9 +49,9 @@ module _ (s : List ℕ) where
       let c = next_delta32-within s (next_delta16 s (next_word s p carried).place f.did).place b f.dts in
       next_word-within s _ c f.id
 
-  values_of-payload : (p : Place) (g : CuSecond) → (values_of s p g).payload.value < 128
+  values_of-payload : (p : Place) (g : CuSecond) → IfSome (values_of s p g).payload (λ v. v < 128)
   unfolding values_of
-  values_of-payload p g = next_payload-value s _ g.payload
+  values_of-payload p g = next_payload-range s _ g.payload
 
   values_of-list : (p : Place) (g : CuSecond) → g.count < 16 → ListSound (values_of s p g).csrc
   unfolding values_of
@@ -81,12 +83,12 @@ module _ (s : List ℕ) where
       → (cu_of s p f carried).place.cursor.at ≤ length s
   unfolding cu_of
   cu_of-within p f carried h = cu_rest-within (next_byte s p true).place (cu_flags_of f)
-      (cu_second_of (flags_of (next_byte s p true).field.value)) carried (next_byte-within s p h true)
+      (cu_second_of (flags_of (or_zero (next_byte s p true).field))) carried (next_byte-within s p h true)
 
   pub cu_of-sound : (p : Place) (f : Flags) (carried : Bool) → PartsSound (cu_of s p f carried).parts
   unfolding cu_of
   cu_of-sound p f carried = cu_rest-sound (next_byte s p true).place (cu_flags_of f)
-      (cu_second_of (flags_of (next_byte s p true).field.value)) carried (omega arith)
+      (cu_second_of (flags_of (or_zero (next_byte s p true).field))) carried (omega arith)
 
   ---- CR
 
@@ -97,7 +99,7 @@ module _ (s : List ℕ) where
 
   second_of-count : (p : Place) (f : CrFlags) → (second_of s p f).count < 16
   unfolding second_of
-  second_of-count p f = second_with-count (all_four f) f (flags_of (next_byte s p (all_four f)).field.value)
+  second_of-count p f = second_with-count (all_four f) f (flags_of (or_zero (next_byte s p (all_four f)).field))
       (next_byte s p (all_four f)).place (omega arith)
 
   second_with-within : (m : Bool) (f : CrFlags) (g : Flags) (p : Place) → p.cursor.at ≤ length s
@@ -109,10 +111,10 @@ module _ (s : List ℕ) where
   second_of-within : (p : Place) (f : CrFlags) → p.cursor.at ≤ length s → (second_of s p f).place.cursor.at ≤ length s
   unfolding second_of
   second_of-within p f h =
-      second_with-within (all_four f) f (flags_of (next_byte s p (all_four f)).field.value) (next_byte s p (all_four f)).place
+      second_with-within (all_four f) f (flags_of (or_zero (next_byte s p (all_four f)).field)) (next_byte s p (all_four f)).place
       (next_byte-within s p h (all_four f))
 
-  deltas_of-coded : (p : Place) (f : CrFlags) → has_code 32 (deltas_of s p f).dts.value ≡ true
+  deltas_of-coded : (p : Place) (f : CrFlags) → IfSome (deltas_of s p f).dts (λ v. has_code 32 v ≡ true)
   unfolding deltas_of
   deltas_of-coded p f = next_delta32-coded s _ f.dts
 
@@ -131,7 +133,7 @@ module _ (s : List ℕ) where
   cr_rest-sound : (checksum : ℕ) (n : Second) → n.count < 16 → PartsSound (cr_rest s checksum n).parts
   unfolding cr_rest
   cr_rest-sound checksum n h = record {
-    payload = omega arith;
+    payload = tt;
     coded = deltas_of-coded n.place n.flags;
     list = next_list-sound s (deltas_of s n.place n.flags).place n.count (omega arith);
   }
@@ -140,12 +142,12 @@ module _ (s : List ℕ) where
       → (cr_of s p f carried).place.cursor.at ≤ length s
   unfolding cr_of
   cr_of-within p f carried h =
-      cr_rest-within (next_word s p carried).field.value (second_of s (next_word s p carried).place (cr_flags_of f))
+      cr_rest-within (or_zero (next_word s p carried).field) (second_of s (next_word s p carried).place (cr_flags_of f))
       (second_of-within (next_word s p carried).place (cr_flags_of f) (next_word-within s p h carried))
 
   pub cr_of-sound : (p : Place) (f : Flags) (carried : Bool) → PartsSound (cr_of s p f carried).parts
   unfolding cr_of
-  cr_of-sound p f carried = cr_rest-sound (next_word s p carried).field.value
+  cr_of-sound p f carried = cr_rest-sound (or_zero (next_word s p carried).field)
       (second_of s (next_word s p carried).place (cr_flags_of f)) (second_of-count (next_word s p carried).place (cr_flags_of f))
 
   ---- CU without F
@@ -184,7 +186,7 @@ module _ (s : List ℕ) where
   pub whole_of-sound : (p : Place) (f : Flags) (carried : Bool) → PartsSound (whole_of s p f carried).parts
   unfolding whole_of
   whole_of-sound p f carried = record {
-    payload = omega arith;
+    payload = tt;
     coded = changes_of-coded p (cu_flags_of f) carried;
     list = record { count = omega arith; size = refl; blank = refl };
   }
@@ -202,21 +204,21 @@ module _ (s : List ℕ) (all : AllBytes s) where
   unfolding cu_rest changes_of values_of
   cu_rest-range p f g carried h = record {
     checksum = next_word-wanted s all p carried;
-    id = next_word-sendable s all _ f.id;
-    sequence = next_word-sendable s all _ g.sequence;
-    timestamp = next_long-sendable s all _ g.timestamp;
-    payload = next_payload-sendable s _ g.payload;
-    did = next_delta16-sendable s _ f.did;
-    dsn = sendable-zero 16 false;
-    dts = next_delta32-sendable s _ f.dts;
-    coded = λ e. next_delta32-coded s _ f.dts;
+    id = next_word-range s all _ f.id;
+    sequence = next_word-range s all _ g.sequence;
+    timestamp = next_long-range s all _ g.timestamp;
+    payload = next_payload-range s _ g.payload;
+    did = next_delta16-range s _ f.did;
+    dsn = tt;
+    dts = next_delta32-range s _ f.dts;
+    coded = next_delta32-coded s _ f.dts;
     list = next_list-range s all _ g.count (omega arith);
   }
 
   pub cu_of-range : (p : Place) (f : Flags) (carried : Bool) → PartsFit carried (cu_of s p f carried).parts
   unfolding cu_of
   cu_of-range p f carried = cu_rest-range (next_byte s p true).place (cu_flags_of f)
-      (cu_second_of (flags_of (next_byte s p true).field.value)) carried (omega arith)
+      (cu_second_of (flags_of (or_zero (next_byte s p true).field))) carried (omega arith)
 
   ---- CR
 
@@ -225,21 +227,21 @@ module _ (s : List ℕ) (all : AllBytes s) where
   unfolding cr_rest deltas_of
   cr_rest-range carried checksum n c h = record {
     checksum = c;
-    id = sendable-zero 16 false;
-    sequence = sendable-zero 16 false;
-    timestamp = sendable-zero 32 false;
-    payload = sendable-zero 7 false;
-    did = next_delta16-sendable s _ n.flags.did;
-    dsn = next_delta16-sendable s _ n.flags.dsn;
-    dts = next_delta32-sendable s _ n.flags.dts;
-    coded = λ e. next_delta32-coded s _ n.flags.dts;
+    id = tt;
+    sequence = tt;
+    timestamp = tt;
+    payload = tt;
+    did = next_delta16-range s _ n.flags.did;
+    dsn = next_delta16-range s _ n.flags.dsn;
+    dts = next_delta32-range s _ n.flags.dts;
+    coded = next_delta32-coded s _ n.flags.dts;
     list = next_list-range s all _ n.count (omega arith);
   }
 
   pub cr_of-range : (p : Place) (f : Flags) (carried : Bool) → PartsFit carried (cr_of s p f carried).parts
   unfolding cr_of
   cr_of-range p f carried =
-      cr_rest-range carried (next_word s p carried).field.value (second_of s (next_word s p carried).place (cr_flags_of f))
+      cr_rest-range carried (or_zero (next_word s p carried).field) (second_of s (next_word s p carried).place (cr_flags_of f))
       (next_word-wanted s all p carried) (second_of-count s (next_word s p carried).place (cr_flags_of f))
 
   ---- CU without F
@@ -259,20 +261,21 @@ module _ (s : List ℕ) (all : AllBytes s) where
   unfolding rtp_of fixed_of
   rtp_of-range p =
       rtp_rest-range (fixed_of s p) (rtp_first_of (fixed_of s p).first) (omega arith)
-      (next_word-sendable s all _ true).fits (next_long-sendable s all _ true).fits (next_long-sendable s all _ true).fits
+      (next_word-wanted s all _ true).fits (zero-fits _ 32 (next_long-range s all _ true))
+      (zero-fits _ 32 (next_long-range s all _ true))
 
   pub whole_of-range : (p : Place) (f : Flags) (carried : Bool) → PartsFit carried (whole_of s p f carried).parts
   unfolding whole_of changes_of
   whole_of-range p f carried = record {
     checksum = next_word-wanted s all p carried;
-    id = next_word-sendable s all _ (cu_flags_of f).id;
-    sequence = sendable-zero 16 false;
-    timestamp = sendable-zero 32 false;
-    payload = sendable-zero 7 false;
-    did = next_delta16-sendable s _ (cu_flags_of f).did;
-    dsn = sendable-zero 16 false;
-    dts = next_delta32-sendable s _ (cu_flags_of f).dts;
-    coded = λ e. next_delta32-coded s _ (cu_flags_of f).dts;
+    id = next_word-range s all _ (cu_flags_of f).id;
+    sequence = tt;
+    timestamp = tt;
+    payload = tt;
+    did = next_delta16-range s _ (cu_flags_of f).did;
+    dsn = tt;
+    dts = next_delta32-range s _ (cu_flags_of f).dts;
+    coded = next_delta32-coded s _ (cu_flags_of f).dts;
     list = range-no_list;
   }
 

@@ -1,6 +1,6 @@
 -- Iarwennol. Laws of COMPRESSED_UDP without F: what was encoded is decoded, whatever comes after it. Assume nothing.
 -- The compressor sends no such packet; the law holds the two definitions of the layout together.
-use Rattle.std.specs.Prelude.{ℕ, ◌+◌, ◌≤◌, ◌≡◌, Bool, drop}
+use Rattle.std.specs.Prelude.{ℕ, ◌+◌, ◌≤◌, ◌≡◌, Bool, None, drop}
 use Rattle.std.proofs.Math.Path.{refl}
 use Rattle.std.proofs.Common.{sym, ap, ◌∙◌}
 use Rattle.std.proofs.Math.Bool.{true, false}
@@ -19,8 +19,7 @@ use Rattle.fields.specs.Place.{good}
 use Rattle.fields.specs.NextLaws.{left-past, next_version-written, next_byte-written}
 use Rattle.fields.specs.NextLaws.{next_word-written, next_long-written, next_list-written}
 use Rattle.links.specs.declared.whole.Fixed.{Fixed}
-use Rattle.links.specs.Sent.{none8, none16, none32}
-use Rattle.links.proofs.SentLaws.{append-four, unsent8, unsent16, unsent32}
+use Rattle.links.proofs.SentLaws.{append-four}
 use Rattle.links.specs.Head.{head_bytes, head_of}
 use Rattle.links.proofs.FitsLaws.{WholeFits}
 use Rattle.links.proofs.HeadLaws.{head_of-written}
@@ -70,10 +69,10 @@ module _ (w : RtpHeader) (fit : HeaderFits w) where
       rw (
         next_version-written s at (first_byte w) (second_byte w ∷ tail l)
             (rtp_first_byte-version (rtp_first w.rtp w.csrc) (omega (arith, fit.list.count))) (tail-long l) e,
-        next_byte-written s (at + 1) true (second_byte w) (tail l) refl e1,
-        next_word-written s (at + 1 + 1) true w.rtp.sequence (B ++ (C ++ (D ++ l))) refl fit.sequence e2,
-        next_long-written s (at + 1 + 1 + 2) true w.rtp.timestamp (C ++ (D ++ l)) refl fit.timestamp e3,
-        next_long-written s (at + 1 + 1 + 2 + 4) true w.ssrc (D ++ l) refl fit.ssrc e4,
+        next_byte-written s (at + 1) true (second_byte w) (tail l) e1,
+        next_word-written s (at + 1 + 1) true w.rtp.sequence (B ++ (C ++ (D ++ l))) fit.sequence e2,
+        next_long-written s (at + 1 + 1 + 2) true w.rtp.timestamp (C ++ (D ++ l)) fit.timestamp e3,
+        next_long-written s (at + 1 + 1 + 2 + 4) true w.ssrc (D ++ l) fit.ssrc e4,
         n,
       )
 
@@ -131,7 +130,7 @@ module _ (w : RtpHeader) (fit : HeaderFits w) where
 
 abbrev Bare : Parts → RtpHeader → Type 0
 Bare h w =
-    (w.marker ≡ h.marker) × (none16 ≡ h.sequence) × (none32 ≡ h.timestamp) × (none8 ≡ h.payload) × (none16 ≡ h.dsn)
+    (w.marker ≡ h.marker) × (None ≡ h.sequence) × (None ≡ h.timestamp) × (None ≡ h.payload) × (None ≡ h.dsn)
     × (false ≡ h.listed) × (no_list ≡ h.csrc)
 
 whole_same : (h : Parts) (w : RtpHeader) → Bare h w → (a at : ℕ)
@@ -158,10 +157,10 @@ module _ (context link : ℕ) (carried : Bool) (h : Parts) (w : RtpHeader) (fits
   bare : Bare h w
   bare = (
     sym fits.marker,
-    unsent16 16 h.sequence fits.sequence fits.parts.sequence,
-    unsent32 32 h.timestamp fits.timestamp fits.parts.timestamp,
-    unsent8 7 h.payload fits.payload fits.parts.payload,
-    unsent16 16 h.dsn fits.dsn fits.parts.dsn,
+    sym fits.sequence,
+    sym fits.timestamp,
+    sym fits.payload,
+    sym fits.dsn,
     sym fits.unlisted,
     sym fits.empty,
   )

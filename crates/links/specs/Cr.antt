@@ -1,22 +1,21 @@
 -- Iarwennol. COMPRESSED_RTP (rule 6.2): its bytes, and the reader that takes them apart from left to right.
 -- The reader begins past the flag byte. Used by the compressor through outgoing, and by the decompressor.
-use Rattle.std.specs.Prelude.{ℕ, Bool, true, false, ◌&&◌, ◌||◌, List, [], ◌∷◌, ◌++◌}
+use Rattle.std.specs.Prelude.{ℕ, Bool, true, false, None, is_some, ◌&&◌, ◌||◌, List, [], ◌∷◌, ◌++◌}
 use Rattle.codes.specs.Bytes.{big_endian}
 use Rattle.packet.specs.declared.parts.Parts.{Parts}
 use Rattle.octets.specs.declared.flags.Flags.{Flags}
 use Rattle.octets.specs.Flags.{flags_of, byte_of}
 use Rattle.octets.specs.Put.{optional, list_bytes}
 use Rattle.fields.specs.declared.place.Place.{Place}
-use Rattle.fields.specs.declared.place.Got8.{Got8}
-use Rattle.fields.specs.declared.place.Got16.{Got16}
-use Rattle.fields.specs.declared.place.Got32.{Got32}
+use Rattle.fields.specs.declared.place.Got.{Got}
+use Rattle.fields.specs.Place.{or_zero}
 use Rattle.fields.specs.declared.place.GotList.{GotList}
 use Rattle.fields.specs.Next.{next_byte, next_word, next_delta16, next_delta32, next_list}
 use Rattle.links.specs.declared.head.ReadParts.{ReadParts}
 use Rattle.links.specs.declared.cr.CrFlags.{CrFlags}
 use Rattle.links.specs.declared.cr.Second.{Second}
 use Rattle.links.specs.declared.cr.Deltas.{Deltas}
-use Rattle.links.specs.Sent.{delta16, delta32, none8, none16, none32}
+use Rattle.links.specs.Sent.{delta}
 use Rattle.links.specs.Head.{head_bytes}
 
 ---- the flag bytes, both ways
@@ -32,7 +31,7 @@ cr_flags_bits number f = record { bit7 = f.marker; bit6 = f.dsn; bit5 = f.dts; b
 
 -- what the flags say of some parts
 abbrev pub cr_sent : Parts → CrFlags
-cr_sent h = record { marker = h.marker; dsn = h.dsn.sent; dts = h.dts.sent; did = h.did.sent }
+cr_sent h = record { marker = h.marker; dsn = is_some h.dsn; dts = is_some h.dts; did = is_some h.did }
 
 -- rule 6.2: 1111 where the second byte stands, else the flags themselves
 abbrev pub cr_first : (listed : Bool) → CrFlags → CrFlags
@@ -51,7 +50,7 @@ second_bytes listed h = optional listed (cr_second_byte h ∷ [])
 
 -- rule 6.2: the differences of ID, sequence and timestamp
 abbrev pub deltas_bytes : Parts → List ℕ
-deltas_bytes h = delta16 h.did ++ (delta16 h.dsn ++ delta32 h.dts)
+deltas_bytes h = delta 16 h.did ++ (delta 16 h.dsn ++ delta 32 h.dts)
 
 -- rule 6.2: all that comes before what is copied
 unfoldable pub cr_bytes : (context link : ℕ) → (carried : Bool) → Parts → List ℕ
@@ -73,15 +72,15 @@ second_with false f g p = record { place = p; listed = false; flags = f; count =
 -- rule 6.2
 unfoldable pub second_of : List ℕ → Place → CrFlags → Second
 second_of s p f =
-    let second : Got8 = next_byte s p (all_four f) in
-    second_with (all_four f) f (flags_of second.field.value) second.place
+    let second : Got ℕ = next_byte s p (all_four f) in
+    second_with (all_four f) f (flags_of (or_zero second.field)) second.place
 
 -- rule 6.2: the differences of the ID if I, of the sequence if S, of the timestamp if T
 unfoldable pub deltas_of : List ℕ → Place → CrFlags → Deltas
 deltas_of s p f =
-    let did : Got16 = next_delta16 s p f.did in
-    let dsn : Got16 = next_delta16 s did.place f.dsn in
-    let dts : Got32 = next_delta32 s dsn.place f.dts in
+    let did : Got ℕ = next_delta16 s p f.did in
+    let dsn : Got ℕ = next_delta16 s did.place f.dsn in
+    let dts : Got ℕ = next_delta32 s dsn.place f.dts in
     record { place = dts.place; did = did.field; dsn = dsn.field; dts = dts.field }
 
 abbrev pub cr_parts : (checksum : ℕ) → Second → Deltas → GotList → ReadParts
@@ -90,10 +89,10 @@ cr_parts checksum n d l = record {
   parts = record {
     marker = n.flags.marker;
     checksum = checksum;
-    id = none16;
-    sequence = none16;
-    timestamp = none32;
-    payload = none8;
+    id = None;
+    sequence = None;
+    timestamp = None;
+    payload = None;
     did = d.did;
     dsn = d.dsn;
     dts = d.dts;
@@ -112,5 +111,5 @@ cr_rest s checksum second =
 -- rule 6.2: past the flag byte f
 unfoldable pub cr_of : List ℕ → Place → Flags → (carried : Bool) → ReadParts
 cr_of s p f carried =
-    let checksum : Got16 = next_word s p carried in
-    cr_rest s checksum.field.value (second_of s checksum.place (cr_flags_of f))
+    let checksum : Got ℕ = next_word s p carried in
+    cr_rest s (or_zero checksum.field) (second_of s checksum.place (cr_flags_of f))

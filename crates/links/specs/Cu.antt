@@ -1,15 +1,14 @@
 -- Iarwennol. COMPRESSED_UDP with F (rule 6.3): its bytes, and the reader that takes them apart from left to right.
 -- The reader begins past the flag byte. Used by the compressor through outgoing, and by the decompressor.
-use Rattle.std.specs.Prelude.{ℕ, Bool, true, List, [], ◌∷◌, ◌++◌}
+use Rattle.std.specs.Prelude.{ℕ, Bool, true, None, is_some, List, [], ◌∷◌, ◌++◌}
 use Rattle.codes.specs.Bytes.{big_endian}
 use Rattle.packet.specs.declared.parts.Parts.{Parts}
 use Rattle.octets.specs.declared.flags.Flags.{Flags}
 use Rattle.octets.specs.Flags.{flags_of, byte_of}
 use Rattle.octets.specs.Put.{optional, list_bytes}
 use Rattle.fields.specs.declared.place.Place.{Place}
-use Rattle.fields.specs.declared.place.Got8.{Got8}
-use Rattle.fields.specs.declared.place.Got16.{Got16}
-use Rattle.fields.specs.declared.place.Got32.{Got32}
+use Rattle.fields.specs.declared.place.Got.{Got}
+use Rattle.fields.specs.Place.{or_zero}
 use Rattle.fields.specs.declared.place.GotList.{GotList}
 use Rattle.fields.specs.Next.{next_byte, next_word, next_long, next_delta16, next_delta32, next_payload, next_list}
 use Rattle.links.specs.declared.head.ReadParts.{ReadParts}
@@ -17,7 +16,7 @@ use Rattle.links.specs.declared.cu.CuFlags.{CuFlags}
 use Rattle.links.specs.declared.cu.CuSecond.{CuSecond}
 use Rattle.links.specs.declared.cu.Changes.{Changes}
 use Rattle.links.specs.declared.cu.Values.{Values}
-use Rattle.links.specs.Sent.{whole8, whole16, whole32, delta16, delta32, none16}
+use Rattle.links.specs.Sent.{whole, whole_byte, delta}
 use Rattle.links.specs.Head.{head_bytes}
 
 ---- the flag bytes, both ways
@@ -40,7 +39,7 @@ cu_second_bits g = record { bit7 = g.marker; bit6 = g.sequence; bit5 = g.timesta
 
 -- what the flags say of some parts. values: F
 abbrev pub cu_sent : (values : Bool) → Parts → CuFlags
-cu_sent values h = record { values = values; id = h.id.sent; dts = h.dts.sent; did = h.did.sent }
+cu_sent values h = record { values = values; id = is_some h.id; dts = is_some h.dts; did = is_some h.did }
 
 abbrev pub cu_flags : (link : ℕ) → Parts → Flags
 cu_flags link h = cu_flags_bits link (cu_sent true h)
@@ -48,9 +47,9 @@ cu_flags link h = cu_flags_bits link (cu_sent true h)
 abbrev pub cu_second : Parts → CuSecond
 cu_second h = record {
   marker = h.marker;
-  sequence = h.sequence.sent;
-  timestamp = h.timestamp.sent;
-  payload = h.payload.sent;
+  sequence = is_some h.sequence;
+  timestamp = is_some h.timestamp;
+  payload = is_some h.payload;
   count = h.csrc.count;
 }
 
@@ -59,11 +58,11 @@ cu_second_byte h = byte_of (cu_second_bits (cu_second h))
 
 -- rule 6.3: the UDP checksum where it is carried, the differences of ID and timestamp, the ID
 abbrev pub changes_bytes : (carried : Bool) → Parts → List ℕ
-changes_bytes carried h = optional carried (big_endian 2 h.checksum) ++ (delta16 h.did ++ (delta32 h.dts ++ whole16 h.id))
+changes_bytes carried h = optional carried (big_endian 2 h.checksum) ++ (delta 16 h.did ++ (delta 32 h.dts ++ whole 2 h.id))
 
 -- rule 6.3: sequence, timestamp, payload type, CSRC list
 abbrev pub values_bytes : Parts → List ℕ
-values_bytes h = whole16 h.sequence ++ (whole32 h.timestamp ++ (whole8 h.payload ++ list_bytes h.csrc))
+values_bytes h = whole 2 h.sequence ++ (whole 4 h.timestamp ++ (whole_byte h.payload ++ list_bytes h.csrc))
 
 -- rule 6.3: all that comes before what is copied
 unfoldable pub cu_bytes : (context link : ℕ) → (carried : Bool) → Parts → List ℕ
@@ -75,18 +74,18 @@ cu_bytes context link carried h =
 -- rule 6.3: the UDP checksum where it is carried, the differences of the ID if dI, of the timestamp if dT, the ID if I
 unfoldable pub changes_of : List ℕ → Place → CuFlags → (carried : Bool) → Changes
 changes_of s p f carried =
-    let checksum : Got16 = next_word s p carried in
-    let did : Got16 = next_delta16 s checksum.place f.did in
-    let dts : Got32 = next_delta32 s did.place f.dts in
-    let id : Got16 = next_word s dts.place f.id in
-    record { place = id.place; checksum = checksum.field.value; did = did.field; dts = dts.field; id = id.field }
+    let checksum : Got ℕ = next_word s p carried in
+    let did : Got ℕ = next_delta16 s checksum.place f.did in
+    let dts : Got ℕ = next_delta32 s did.place f.dts in
+    let id : Got ℕ = next_word s dts.place f.id in
+    record { place = id.place; checksum = or_zero checksum.field; did = did.field; dts = dts.field; id = id.field }
 
 -- rule 6.3: the sequence if S, the timestamp if T, the payload type if pt, CC words
 unfoldable pub values_of : List ℕ → Place → CuSecond → Values
 values_of s p g =
-    let sequence : Got16 = next_word s p g.sequence in
-    let timestamp : Got32 = next_long s sequence.place g.timestamp in
-    let payload : Got8 = next_payload s timestamp.place g.payload in
+    let sequence : Got ℕ = next_word s p g.sequence in
+    let timestamp : Got ℕ = next_long s sequence.place g.timestamp in
+    let payload : Got ℕ = next_payload s timestamp.place g.payload in
     let csrc : GotList = next_list s payload.place g.count in
     record {
       place = csrc.place;
@@ -107,7 +106,7 @@ cu_parts g c v = record {
     timestamp = v.timestamp;
     payload = v.payload;
     did = c.did;
-    dsn = none16;
+    dsn = None;
     dts = c.dts;
     listed = true;
     csrc = v.csrc;
@@ -124,5 +123,5 @@ cu_rest s p f g carried =
 -- rule 6.3: past the flag byte f
 unfoldable pub cu_of : List ℕ → Place → Flags → (carried : Bool) → ReadParts
 cu_of s p f carried =
-    let second : Got8 = next_byte s p true in
-    cu_rest s second.place (cu_flags_of f) (cu_second_of (flags_of second.field.value)) carried
+    let second : Got ℕ = next_byte s p true in
+    cu_rest s second.place (cu_flags_of f) (cu_second_of (flags_of (or_zero second.field))) carried

@@ -4,8 +4,8 @@ use Rattle.std.specs.Prelude.{ℕ, true, List, [], ◌∷◌}
 use Rattle.octets.specs.declared.flags.Flags.{Flags}
 use Rattle.octets.specs.Flags.{flags_of, byte_of}
 use Rattle.fields.specs.declared.place.Place.{Place}
-use Rattle.fields.specs.declared.place.Got8.{Got8}
-use Rattle.fields.specs.Place.{good}
+use Rattle.fields.specs.declared.place.Got.{Got}
+use Rattle.fields.specs.Place.{good, or_zero}
 use Rattle.fields.specs.Next.{next_byte}
 use Rattle.links.specs.declared.head.Head.{Head}
 
@@ -18,15 +18,15 @@ head_bytes context f = context ∷ byte_of f ∷ []
 ---- reader
 
 -- rules 6.2, 6.3: the context number, read from the first byte on, and the place past it
-abbrev pub context_field : List ℕ → Got8
+abbrev pub context_field : List ℕ → Got ℕ
 context_field s = next_byte s (good 0) true
 
 abbrev pub context_of : List ℕ → ℕ
-context_of s = (context_field s).field.value
+context_of s = or_zero (context_field s).field
 
 -- rules 6.2, 6.3: the flag byte that stands at p, and the place past it
 abbrev pub head_at : List ℕ → Place → Head
-head_at s p = let flags : Got8 = next_byte s p true in record { place = flags.place; flags = flags_of flags.field.value }
+head_at s p = let flags : Got ℕ = next_byte s p true in record { place = flags.place; flags = flags_of (or_zero flags.field) }
 
 -- rules 6.2, 6.3
 unfoldable pub head_of : List ℕ → Head

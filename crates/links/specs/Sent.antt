@@ -1,36 +1,26 @@
 -- Iarwennol. The bytes of fields that a link packet may carry, whole or as a difference (rules 6.2, 6.3).
 -- Used by the layouts of CU and CR.
-use Rattle.std.specs.Prelude.{ℕ, false, List, [], ◌∷◌}
+use Rattle.std.specs.Prelude.{ℕ, List, [], ◌∷◌, Option, Some, None}
 use Rattle.codes.specs.Bytes.{big_endian}
 use Rattle.codes.specs.Code.{code_of}
-use Rattle.packet.specs.declared.sent.Sent8.{Sent8}
-use Rattle.packet.specs.declared.sent.Sent16.{Sent16}
-use Rattle.packet.specs.declared.sent.Sent32.{Sent32}
-use Rattle.octets.specs.Put.{optional}
 
--- rule 6.3: a field where it is sent whole
-abbrev pub whole8 : Sent8 → List ℕ
-whole8 f = optional f.sent (f.value ∷ [])
+-- a field where one is sent; bytes: those of a field
+abbrev pub whole_as : {A : Type 0} → (A → List ℕ) → Option A → List ℕ
+whole_as bytes (Some v) = bytes v
+whole_as bytes None = []
 
-abbrev pub whole16 : Sent16 → List ℕ
-whole16 f = optional f.sent (big_endian 2 f.value)
+-- rule 6.3: a field of n bytes where it is sent whole
+abbrev pub whole : (n : ℕ) → Option ℕ → List ℕ
+whole n o = whole_as (big_endian n) o
 
-abbrev pub whole32 : Sent32 → List ℕ
-whole32 f = optional f.sent (big_endian 4 f.value)
+-- rule 6.3: the same for a byte
+abbrev pub whole_byte : Option ℕ → List ℕ
+whole_byte o = whole_as (λ v. v ∷ []) o
 
--- rules 4.1, 6.2, 6.3: the code of a difference where one is sent
-abbrev pub delta16 : Sent16 → List ℕ
-delta16 f = optional f.sent (code_of 16 f.value)
+-- rules 4.1, 6.2, 6.3: the code of a difference of w bits where one is sent; value: its number
+abbrev pub delta_as : {A : Type 0} → (A → ℕ) → (w : ℕ) → Option A → List ℕ
+delta_as value w (Some d) = code_of w (value d)
+delta_as value w None = []
 
-abbrev pub delta32 : Sent32 → List ℕ
-delta32 f = optional f.sent (code_of 32 f.value)
-
--- a field that is not sent
-abbrev pub none8 : Sent8
-none8 = record { sent = false; value = 0 }
-
-abbrev pub none16 : Sent16
-none16 = record { sent = false; value = 0 }
-
-abbrev pub none32 : Sent32
-none32 = record { sent = false; value = 0 }
+abbrev pub delta : (w : ℕ) → Option ℕ → List ℕ
+delta w d = delta_as (λ v. v) w d

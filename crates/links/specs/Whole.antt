@@ -1,6 +1,6 @@
 -- Iarwennol. COMPRESSED_UDP without F (rule 6.3), which carries a whole RTP header: its bytes, and the reader.
 -- The reader begins past the flag byte. The compressor never sends this form (rule 8.8); the decompressor takes it.
-use Rattle.std.specs.Prelude.{ℕ, Bool, true, false, List, ◌∷◌, ◌++◌}
+use Rattle.std.specs.Prelude.{ℕ, Bool, true, false, None, List, ◌∷◌, ◌++◌}
 use Rattle.codes.specs.Bytes.{big_endian}
 use Rattle.packet.specs.Csrc.{no_list}
 use Rattle.packet.specs.declared.header.RtpHeader.{RtpHeader}
@@ -10,16 +10,14 @@ use Rattle.octets.specs.Put.{list_bytes}
 use Rattle.headers.specs.declared.rtp.RtpFirst.{RtpFirst}
 use Rattle.headers.specs.Rtp.{rtp_first_of, rtp_first_byte, rtp_first, rtp_second_of, rtp_second_byte, rtp_second}
 use Rattle.fields.specs.declared.place.Place.{Place}
-use Rattle.fields.specs.declared.place.Got8.{Got8}
-use Rattle.fields.specs.declared.place.Got16.{Got16}
-use Rattle.fields.specs.declared.place.Got32.{Got32}
+use Rattle.fields.specs.declared.place.Got.{Got}
+use Rattle.fields.specs.Place.{or_zero}
 use Rattle.fields.specs.declared.place.GotList.{GotList}
 use Rattle.fields.specs.Next.{next_version, next_byte, next_word, next_long, next_list}
 use Rattle.links.specs.declared.cu.Changes.{Changes}
 use Rattle.links.specs.declared.whole.Fixed.{Fixed}
 use Rattle.links.specs.declared.whole.GotRtp.{GotRtp}
 use Rattle.links.specs.declared.whole.ReadWhole.{ReadWhole}
-use Rattle.links.specs.Sent.{none8, none16, none32}
 use Rattle.links.specs.Head.{head_bytes}
 use Rattle.links.specs.Cu.{cu_flags_of, cu_flags_bits, cu_sent, changes_bytes, changes_of}
 
@@ -44,18 +42,18 @@ whole_bytes context link carried h w = head_bytes context (whole_flags link h) +
 -- rules 3.4, 6.3: twelve bytes that are one field; the version is judged before any is taken
 unfoldable pub fixed_of : List ℕ → Place → Fixed
 fixed_of s p =
-    let first : Got8 = next_version s p in
-    let second : Got8 = next_byte s first.place true in
-    let sequence : Got16 = next_word s second.place true in
-    let timestamp : Got32 = next_long s sequence.place true in
-    let ssrc : Got32 = next_long s timestamp.place true in
+    let first : Got ℕ = next_version s p in
+    let second : Got ℕ = next_byte s first.place true in
+    let sequence : Got ℕ = next_word s second.place true in
+    let timestamp : Got ℕ = next_long s sequence.place true in
+    let ssrc : Got ℕ = next_long s timestamp.place true in
     record {
       place = ssrc.place;
-      first = first.field.value;
-      second = second.field.value;
-      sequence = sequence.field.value;
-      timestamp = timestamp.field.value;
-      ssrc = ssrc.field.value;
+      first = or_zero first.field;
+      second = or_zero second.field;
+      sequence = or_zero sequence.field;
+      timestamp = or_zero timestamp.field;
+      ssrc = or_zero ssrc.field;
     }
 
 -- f: what the first byte says
@@ -91,11 +89,11 @@ whole_parts c w = record {
     marker = w.header.marker;
     checksum = c.checksum;
     id = c.id;
-    sequence = none16;
-    timestamp = none32;
-    payload = none8;
+    sequence = None;
+    timestamp = None;
+    payload = None;
     did = c.did;
-    dsn = none16;
+    dsn = None;
     dts = c.dts;
     listed = false;
     csrc = no_list;

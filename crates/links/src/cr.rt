@@ -1,5 +1,4 @@
 use fields::place::Place;
-use packet::sent::{Sent16, Sent32};
 
 // The flags of both flag bytes of a CR: M, S, T, I. The first byte's number is the link sequence, the second's the CSRC count.
 //
@@ -25,7 +24,7 @@ pub struct Second {
 #[derive(Clone, Copy)]
 pub struct Deltas {
     pub place: Place,
-    pub did: Sent16,
-    pub dsn: Sent16,
-    pub dts: Sent32,
+    pub did: Option<u16>,
+    pub dsn: Option<u16>,
+    pub dts: Option<u32>,
 }

@@ -1,6 +1,5 @@
 use fields::place::Place;
 use packet::csrc::Csrc;
-use packet::sent::{Sent8, Sent16, Sent32};
 
 // The flags of a CU's flag byte: F, I, dT, dI. The byte's number is the link sequence.
 //
@@ -29,17 +28,17 @@ pub struct CuSecond {
 pub struct Changes {
     pub place: Place,
     pub checksum: u16,
-    pub did: Sent16,
-    pub dts: Sent32,
-    pub id: Sent16,
+    pub did: Option<u16>,
+    pub dts: Option<u32>,
+    pub id: Option<u16>,
 }
 
 // The RTP part of a CU with F.
 #[derive(Clone, Copy)]
 pub struct Values {
     pub place: Place,
-    pub sequence: Sent16,
-    pub timestamp: Sent32,
-    pub payload: Sent8,
+    pub sequence: Option<u16>,
+    pub timestamp: Option<u32>,
+    pub payload: Option<u8>,
     pub csrc: Csrc,
 }

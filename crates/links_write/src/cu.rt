@@ -4,11 +4,11 @@ ghost use Rattle.links.specs.Head.{head_bytes};
 ghost use Rattle.links.specs.Cu.{cu_flags_bits, cu_second_bits, cu_flags, cu_second_byte, changes_bytes, values_bytes, cu_bytes};
 ghost use Rattle.links_write.specs.Size.{changes_size, values_size, cu_size};
 
-use crate::delta::{delta16_size, delta32_size, put_delta16, put_delta32, size_if};
+use crate::delta::{delta_size, put_delta, put_whole, size_if};
 use crate::head::put_head;
 use links::cu::{CuFlags, CuSecond};
 use octets::flags::{Flags, pack};
-use octets::put::{put_list, put8, put8_if, put16_if, put32_if};
+use octets::put::{put, put_if, put_list};
 use packet::parts::Parts;
 
 // The bits of the two flag bytes in their places.
@@ -40,9 +40,9 @@ fn changes_size(carried: bool, h: Parts) -> usize
     ensures { (result ≡ changes_size carried h) × (result ≤ 10) }
 {
     let checksum = size_if(carried, 2);
-    let did = delta16_size(h.did);
-    let dts = delta32_size(h.dts);
-    let id = size_if(h.id.sent, 2);
+    let did = delta_size(h.did);
+    let dts = delta_size(h.dts);
+    let id = size_if(h.id.is_some(), 2);
     checksum + did + dts + id
 }
 
@@ -50,11 +50,10 @@ fn values_size(h: Parts) -> usize
     requires { h.csrc.count ≤ 15 }
     ensures { (result ≡ values_size h) × (result ≤ 67) }
 {
-    let sequence = size_if(h.sequence.sent, 2);
-    let timestamp = size_if(h.timestamp.sent, 4);
-    let payload = size_if(h.payload.sent, 1);
-    let list = h.csrc;
-    sequence + timestamp + payload + 4 * (list.count as usize)
+    let sequence = size_if(h.sequence.is_some(), 2);
+    let timestamp = size_if(h.timestamp.is_some(), 4);
+    let payload = size_if(h.payload.is_some(), 1);
+    sequence + timestamp + payload + 4 * (h.csrc.count as usize)
 }
 
 // How many bytes a CU with F has before the rest of the packet.
@@ -72,12 +71,11 @@ fn put_flags(out: &mut [u8], at: usize, context: u8, link: u8, h: Parts) -> usiz
 {
     let flags = CuFlags {
         values: true,
-        id: h.id.sent,
-        dts: h.dts.sent,
-        did: h.did.sent,
+        id: h.id.is_some(),
+        dts: h.dts.is_some(),
+        did: h.did.is_some(),
     };
-    let flags = join_flags(link, flags);
-    put_head(out, at, context, flags)
+    put_head(out, at, context, join_flags(link, flags))
 }
 
 fn put_second(out: &mut [u8], at: usize, h: Parts) -> usize
@@ -86,35 +84,34 @@ fn put_second(out: &mut [u8], at: usize, h: Parts) -> usize
 {
     let second = CuSecond {
         marker: h.marker,
-        sequence: h.sequence.sent,
-        timestamp: h.timestamp.sent,
-        payload: h.payload.sent,
+        sequence: h.sequence.is_some(),
+        timestamp: h.timestamp.is_some(),
+        payload: h.payload.is_some(),
         count: h.csrc.count,
     };
-    let flags = join_second(second);
-    let byte = pack(flags);
-    put8(out, at, byte)
+    put(out, at, pack(join_second(second)))
 }
 
+#[tactic(auto, using(crate::specs::SizeLaws::whole_sizes))]
 fn put_changes(out: &mut [u8], at: usize, carried: bool, h: Parts) -> usize
     requires { at + changes_size carried h ≤ length out.old }
     ensures { (result ≡ at + changes_size carried h) × Wrote out.old out.new at result (changes_bytes carried h) }
 {
-    let at = put16_if(out, at, carried, h.checksum);
-    let at = put_delta16(out, at, h.did);
-    let at = put_delta32(out, at, h.dts);
-    put16_if(out, at, h.id.sent, h.id.value)
+    let at = put_if(out, at, carried, h.checksum);
+    let at = put_delta(out, at, h.did);
+    let at = put_delta(out, at, h.dts);
+    put_whole(out, at, h.id)
 }
 
+#[tactic(auto, using(octets::specs::PutLaws::wrote_then, crate::specs::SizeLaws::whole_sizes))]
 fn put_values(out: &mut [u8], at: usize, h: Parts) -> usize
     requires { (h.csrc.count ≤ 15) × (at + values_size h ≤ length out.old) }
     ensures { (result ≡ at + values_size h) × Wrote out.old out.new at result (values_bytes h) }
 {
-    let list = h.csrc;
-    let at = put16_if(out, at, h.sequence.sent, h.sequence.value);
-    let at = put32_if(out, at, h.timestamp.sent, h.timestamp.value);
-    let at = put8_if(out, at, h.payload.sent, h.payload.value);
-    put_list(out, at, list)
+    let at = put_whole(out, at, h.sequence);
+    let at = put_whole(out, at, h.timestamp);
+    let at = put_whole(out, at, h.payload);
+    put_list(out, at, h.csrc)
 }
 
 // The bytes of a CU with F.

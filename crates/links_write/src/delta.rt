@@ -1,10 +1,11 @@
 ghost use Rattle.std.specs.Prelude.{◌≡◌, cond, ◌≤◌, ◌+◌, length};
 ghost use Rattle.octets.specs.Put.{Wrote};
-ghost use Rattle.links.specs.Sent.{delta16, delta32};
+ghost use Rattle.links.specs.Sent.{whole_as, delta_as};
 
-use codes::code::{code16, code32};
-use octets::put::{code_size, put_code_if};
-use packet::sent::{Sent16, Sent32};
+use codes::code::encode;
+use codes::field::DeltaField;
+use octets::put::{code_size, put, put_code};
+use octets::written::Written;
 
 pub fn size_if(wanted: bool, n: usize) -> usize
     ensures { (result ≡ cond wanted n 0) × (result ≤ n) }
@@ -12,39 +13,35 @@ pub fn size_if(wanted: bool, n: usize) -> usize
     if wanted { n } else { 0 }
 }
 
-// Differences that may be sent: how many bytes they have, and the putting of them.
-pub fn delta16_size(f: Sent16) -> usize
-    ensures { (result ≡ length (delta16 f)) × (result ≤ 3) }
+// A field that may be sent whole: the putting of it.
+#[tactic(auto, using(octets::specs::PutLaws::wrote_nothing))]
+pub fn put_whole<T: Written>(out: &mut [u8], at: usize, field: Option<T>) -> usize
+    requires { at + length (whole_as T.bytes field) ≤ length out.old }
+    ensures { Wrote out.old out.new at result (whole_as T.bytes field) }
 {
-    if f.sent {
-        let code = code16(f.value);
-        return code_size(code);
+    match field {
+        Some(v) => put(out, at, v),
+        None => at,
     }
-    0
 }
 
-pub fn delta32_size(f: Sent32) -> usize
-    ensures { (result ≡ length (delta32 f)) × (result ≤ 3) }
+// A difference that may be sent: how many bytes it has, and the putting of it.
+pub fn delta_size<T: DeltaField>(d: Option<T>) -> usize
+    ensures { (result ≡ length (delta_as T.value T.bits d)) × (result ≤ 3) }
 {
-    if f.sent {
-        let code = code32(f.value);
-        return code_size(code);
+    match d {
+        Some(d) => code_size(encode(d)),
+        None => 0,
     }
-    0
 }
 
-pub fn put_delta16(out: &mut [u8], at: usize, f: Sent16) -> usize
-    requires { at + length (delta16 f) ≤ length out.old }
-    ensures { Wrote out.old out.new at result (delta16 f) }
+#[tactic(auto, using(octets::specs::PutLaws::wrote_nothing))]
+pub fn put_delta<T: DeltaField>(out: &mut [u8], at: usize, d: Option<T>) -> usize
+    requires { at + length (delta_as T.value T.bits d) ≤ length out.old }
+    ensures { Wrote out.old out.new at result (delta_as T.value T.bits d) }
 {
-    let code = code16(f.value);
-    put_code_if(out, at, f.sent, code)
-}
-
-pub fn put_delta32(out: &mut [u8], at: usize, f: Sent32) -> usize
-    requires { at + length (delta32 f) ≤ length out.old }
-    ensures { Wrote out.old out.new at result (delta32 f) }
-{
-    let code = code32(f.value);
-    put_code_if(out, at, f.sent, code)
+    match d {
+        Some(d) => put_code(out, at, encode(d)),
+        None => at,
+    }
 }

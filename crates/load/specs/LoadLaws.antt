@@ -7,14 +7,13 @@ use mathlib.Core.List.{List, []}
 use Rattle.packet.specs.Refusal.{is_accepted, verdict_number}
 use Rattle.packet.specs.declared.refusal.Refusal.{Refusal}
 use Rattle.packet.specs.declared.refusal.Refusal.TheVariants.{Unsound}
-use Rattle.packet.specs.declared.refusal.Verdict.{Verdict}
-use Rattle.packet.specs.declared.refusal.Verdict.TheVariants as verdict
+use Rattle.packet.specs.Refusal.{Verdict}
 use Rattle.fields.specs.declared.place.Place.{Place}
 use Rattle.settings.specs.declared.Settings.{Settings}
 use Rattle.context.specs.declared.decompressor.DecompressorContext.{DecompressorContext}
 use Rattle.planes.specs.Planes.{Lent}
-use Rattle.decompressor.specs.declared.answer.Outcome.{Outcome}
-use Rattle.decompressor.specs.declared.answer.Outcome.TheVariants.{Accepted, Refused}
+use Rattle.decompressor.specs.Answer.{Outcome}
+use Rattle.std.specs.Prelude.{Ok, Err}
 use Rattle.decompressor.specs.declared.table.Table.{Table}
 use Rattle.decompressor.specs.Answer.{Result, said, refused}
 use Rattle.decompressor.specs.Table.{no_context}
@@ -60,32 +59,32 @@ module _ (t : Table) (s : List ℕ) (f : Front) (e : f ≡ front_of s) where
   unfolding load_of
   load_of-by v h = rw (← e) (sym (ap by h))
 
-  pub load-refused : (why : Refusal) → f.place.verdict ≡ verdict.Refused why → said (Refused why) t [] ≡ load_of t s
-  load-refused why h = load_of-by (verdict.Refused why) h
+  pub load-refused : (why : Refusal) → f.place.verdict ≡ Err why → said (Err why) t [] ≡ load_of t s
+  load-refused why h = load_of-by (Err why) h
 
   -- q: the records; p: where the reading ends
-  pub load-records : (q : GotContexts) (p : Place) → f.place.verdict ≡ verdict.Accepted
+  pub load-records : (q : GotContexts) (p : Place) → f.place.verdict ≡ Ok tt
       → q ≡ records_of s f.place f.settings.contexts
       → p ≡ allowed q.place (eqb q.place.cursor.at (length s))
       → settled t p (record { settings = f.settings; contexts = q.contexts }) ≡ load_of t s
-  load-records q p h k g = rw (g, k) (load_of-by verdict.Accepted h)
+  load-records q p h k g = rw (g, k) (load_of-by (Ok tt) h)
 
 ---- load_lent
 
 module _ (l : Lent) (s : List ℕ) where
-  pub load-unsized : sized l ≡ false → Gives l l (Refused Unsound) [] (load_lent l s)
+  pub load-unsized : sized l ≡ false → Gives l l (Err Unsound) [] (load_lent l s)
   unfolding load_lent
-  load-unsized e = gives-kept l (Refused Unsound) [] (load_lent l s) (rw e)
+  load-unsized e = gives-kept l (Err Unsound) [] (load_lent l s) (rw e)
 
   load_lent-sized : sized l ≡ true → load_of (table_of l) s ≡ load_lent l s
   unfolding load_lent
   load_lent-sized z = rw z
 
   module _ (z : sized l ≡ true) (f : Front) (e : f ≡ front_of s) where
-    pub lent-refused : (why : Refusal) → f.place.verdict ≡ verdict.Refused why → Gives l l (Refused why) [] (load_lent l s)
-    lent-refused why h = gives-kept l (Refused why) [] (load_lent l s) (load-refused (table_of l) s f e why h ∙ load_lent-sized z)
+    pub lent-refused : (why : Refusal) → f.place.verdict ≡ Err why → Gives l l (Err why) [] (load_lent l s)
+    lent-refused why h = gives-kept l (Err why) [] (load_lent l s) (load-refused (table_of l) s f e why h ∙ load_lent-sized z)
 
-    pub lent-records : (q : GotContexts) (p : Place) (after : Lent) (o : Outcome) → f.place.verdict ≡ verdict.Accepted
+    pub lent-records : (q : GotContexts) (p : Place) (after : Lent) (o : Outcome) → f.place.verdict ≡ Ok tt
         → q ≡ records_of s f.place f.settings.contexts
         → p ≡ allowed q.place (eqb q.place.cursor.at (length s))
         → Gives l after o [] (settled (table_of l) p (record { settings = f.settings; contexts = q.contexts }))
@@ -97,11 +96,11 @@ module _ (l : Lent) (s : List ℕ) where
 ---- settled
 
 module _ (l : Lent) (p : Place) (new : Table) where
-  pub settled-refused : (why : Refusal) → p.verdict ≡ verdict.Refused why → Gives l l (Refused why) [] (settled (table_of l) p new)
-  settled-refused why e = gives-kept l (Refused why) [] (settled (table_of l) p new) (rw e)
+  pub settled-refused : (why : Refusal) → p.verdict ≡ Err why → Gives l l (Err why) [] (settled (table_of l) p new)
+  settled-refused why e = gives-kept l (Err why) [] (settled (table_of l) p new) (rw e)
 
-  pub settled-accepted : (after : Lent) → p.verdict ≡ verdict.Accepted → table_of after ≡ new
-      → Gives l after (Accepted 0) [] (settled (table_of l) p new)
+  pub settled-accepted : (after : Lent) → p.verdict ≡ Ok tt → table_of after ≡ new
+      → Gives l after (Ok 0) [] (settled (table_of l) p new)
   settled-accepted after e h = gives-accepted l after 0 [] (settled (table_of l) p new) (rw (e, h))
 
 ---- contexts put one after another

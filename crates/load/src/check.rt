@@ -2,18 +2,17 @@ ghost use Rattle.std.specs.Prelude.{◌≡◌};
 ghost use Rattle.packet.specs.Refusal.{number_of};
 ghost use Rattle.saves.specs.Saves.{checked, allowed, next_up_to};
 
-use fields::next::next_byte;
-use fields::place::{Got8, Place, stop};
-use packet::refusal::{Refusal, is_accepted};
+use fields::next::next;
+use fields::place::{Got, Place, stop};
+use packet::refusal::Refusal;
 
 // A reading goes on where a test holds. One that was refused before stays as it is.
+#[tactic(auto, unfolding(saves::specs::Saves::checked))]
 pub fn check(p: Place, ok: bool, why: Refusal) -> Place
     ensures { result ≡ checked p ok (number_of why) }
 {
-    let found = p.verdict;
-    let cursor = p.cursor;
-    if is_accepted(found) & !ok {
-        return stop(cursor, why);
+    if p.verdict.is_ok() & !ok {
+        return stop(p.cursor, why);
     }
     p
 }
@@ -26,14 +25,13 @@ pub fn allow(p: Place, ok: bool) -> Place
 }
 
 // A byte of at most so much.
-pub fn next_up_to(s: &[u8], p: Place, wanted: bool, most: u8) -> Got8
+#[tactic(auto, unfolding(saves::specs::Saves::next_up_to, fields::specs::Next::next_byte))]
+pub fn next_up_to(s: &[u8], p: Place, wanted: bool, most: u8) -> Got<u8>
     ensures { result ≡ next_up_to s.now p wanted most }
 {
-    let byte = next_byte(s, p, wanted);
-    let field = byte.field;
-    let place = allow(byte.place, field.value <= most);
-    Got8 {
-        place: place,
-        field: field,
+    let byte = next::<u8>(s, p, wanted);
+    Got {
+        place: allow(byte.place, byte.field.unwrap_or(0) <= most),
+        field: byte.field,
     }
 }

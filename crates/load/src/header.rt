@@ -6,8 +6,9 @@ use fields::place::{Place, stop};
 use headers_read::form::fixed_form;
 use headers_read::place::{count_at, word_at};
 use headers_read::read::{read_header, size_with};
+use packet::csrc::no_list;
 use packet::header::{Flow, Header, Ip, Rtp};
-use packet::refusal::{Refusal, Verdict, is_accepted};
+use packet::refusal::Refusal;
 use saves::read::GotHeader;
 
 // Whether a part has the form of a header that a save writes.
@@ -32,7 +33,6 @@ fn kept_form(size: usize, p: &[u8]) -> bool
 fn no_header(p: Place) -> GotHeader
     ensures { result ≡ record { place = p; header = no_header } }
 {
-    let csrc = packet::csrc::no_list();
     GotHeader {
         place: p,
         header: Header {
@@ -56,7 +56,7 @@ fn no_header(p: Place) -> GotHeader
                 sequence: 0,
                 timestamp: 0,
             },
-            csrc: csrc,
+            csrc: no_list(),
             marker: false,
             checksum: 0,
         },
@@ -76,24 +76,22 @@ fn read_field(s: &[u8], cursor: Cursor, size: usize) -> GotHeader
     if !kept_form(size, part) {
         return no_header(stop(cursor, Refusal::Forbidden));
     }
-    let header = read_header(part);
     GotHeader {
         place: Place {
-            verdict: Verdict::Accepted,
+            verdict: Ok(()),
             cursor: Cursor { at: past },
         },
-        header: header,
+        header: read_header(part),
     }
 }
 
 // The header of a record; a size of 0 has none.
+#[tactic(auto, unfolding(saves::specs::Saves::header_from))]
 pub fn read_kept(s: &[u8], p: Place, size: u8) -> GotHeader
     ensures { result ≡ header_from s.now p size }
 {
-    let found = p.verdict;
-    let cursor = p.cursor;
-    if is_accepted(found) & (size != 0) {
-        return read_field(s, cursor, size as usize);
+    if p.verdict.is_ok() & (size != 0) {
+        return read_field(s, p.cursor, size as usize);
     }
     no_header(p)
 }

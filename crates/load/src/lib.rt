@@ -25,7 +25,7 @@ use crate::store::{empty_context, settle};
 use decompressor::answer::Outcome;
 use decompressor_table::layout::Layout;
 use fields::place::Place;
-use packet::refusal::{Refusal, Verdict};
+use packet::refusal::Refusal;
 use saves::read::GotContexts;
 use settings::Settings;
 
@@ -34,16 +34,12 @@ fn read_records(s: &[u8], p: Place, n: u8) -> GotContexts
     requires { n ≤ 64 }
     ensures { result ≡ records_of s.now p n }
 {
-    let empty = empty_context();
-    let mut contexts = [empty; Settings::PLACES];
+    let mut contexts = [empty_context(); Settings::PLACES];
     let mut at = p;
-    let mut i = 0u8;
-    while i < n {
+    for i in 0..usize::from(n) {
         let record = read_record(s, at);
-        let context = record.context;
-        contexts[i as usize] = context;
+        contexts[i] = record.context;
         at = record.place;
-        i += 1;
     }
     GotContexts {
         place: at,
@@ -61,20 +57,13 @@ pub fn load(w: &mut [u32], h: &mut [u16], b: &mut [u8], s: &[u8]) -> Outcome
         & (h.len() == Layout::SHORTS)
         & (b.len() == Layout::BYTES);
     if !sized {
-        return Outcome::Refused(Refusal::Unsound);
+        return Err(Refusal::Unsound);
     }
     let front = read_front(s);
-    let place = front.place;
-    let found = place.verdict;
-    match found {
-        Verdict::Accepted => {
-            let settings = front.settings;
-            let records = read_records(s, place, settings.contexts);
-            let last = records.place;
-            let contexts = records.contexts;
-            let end = allow(last, last.cursor.at == s.len());
-            settle(w, h, b, end, settings, contexts)
-        }
-        Verdict::Refused(why) => Outcome::Refused(why),
-    }
+    let found = front.place.verdict;
+    found?;
+    let records = read_records(s, front.place, front.settings.contexts);
+    let last = records.place;
+    let end = allow(last, last.cursor.at == s.len());
+    settle(w, h, b, end, front.settings, records.contexts)
 }

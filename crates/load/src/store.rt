@@ -11,14 +11,14 @@ use decompressor::answer::Outcome;
 use decompressor_table::write::put_context;
 use decompressor_walk::open::put_empty;
 use fields::place::Place;
+use packet::csrc::no_list;
 use packet::header::{Flow, Ip, Rtp};
-use packet::refusal::Verdict;
 use settings::Settings;
 
+#[tactic(auto, unfolding(context::specs::Sound::empty_decompressor))]
 pub fn empty_context() -> DecompressorContext
     ensures { result ≡ empty_decompressor }
 {
-    let csrc = packet::csrc::no_list();
     DecompressorContext {
         status: Status::Empty,
         filled: false,
@@ -42,7 +42,7 @@ pub fn empty_context() -> DecompressorContext
             sequence: 0,
             timestamp: 0,
         },
-        csrc: csrc,
+        csrc: no_list(),
         carried: false,
         marker: false,
         deltas: Deltas {
@@ -69,11 +69,8 @@ fn store(
         ≡ record { settings = s; contexts = contexts } }
 {
     put_empty(w, h, b, s);
-    let mut i = 0;
-    while i < Settings::PLACES {
-        let c = contexts[i];
-        put_context(w, h, b, i, c);
-        i += 1;
+    for i in 0..Settings::PLACES {
+        put_context(w, h, b, i, contexts[i]);
     }
 }
 
@@ -93,11 +90,7 @@ pub fn settle(
         (record { settings = s; contexts = contexts })) }
 {
     let found = p.verdict;
-    match found {
-        Verdict::Accepted => {
-            store(w, h, b, s, contexts);
-            Outcome::Accepted(0)
-        }
-        Verdict::Refused(why) => Outcome::Refused(why),
-    }
+    found?;
+    store(w, h, b, s, contexts);
+    Ok(0)
 }

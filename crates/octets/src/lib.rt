@@ -8,3 +8,4 @@
 pub mod flags;
 pub mod put;
 pub mod sum;
+pub mod written;

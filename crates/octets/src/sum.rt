@@ -9,15 +9,13 @@ fn add_words(start: u16, block: &[u8]) -> u32
     ensures { result ≡ start + total (words_of block.now) }
 {
     let mut acc = start as u32;
-    let mut i = 0;
-    while 2 <= block.len() - i {
-        acc += be16(block[i], block[i + 1]) as u32;
-        i += 2;
+    let (pairs, rest) = block.as_chunks::<2>();
+    for pair in pairs {
+        acc += be16(pair[0], pair[1]) as u32;
     }
-    if i < block.len() {
-        acc + be16(block[i], 0) as u32
-    } else {
-        acc
+    match rest.first() {
+        Some(last) => acc + be16(*last, 0) as u32,
+        None => acc,
     }
 }
 
@@ -46,10 +44,8 @@ pub fn sum(start: u16, part: &[u8]) -> u16
     ensures { result ≡ sum_of start (words_of part.now) }
 {
     let mut acc = start;
-    let mut i = 0;
-    while 1600 < part.len() - i {
-        acc = sum_block(acc, &part[i..i + 1600]);
-        i += 1600;
+    for block in part.chunks(1600) {
+        acc = sum_block(acc, block);
     }
-    sum_block(acc, &part[i..])
+    acc
 }

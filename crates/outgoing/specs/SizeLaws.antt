@@ -1,16 +1,14 @@
 -- Iarwennol. Laws of sizes: each is the length of what goes out, and never exceeds that of the packet's header. Assume nothing.
 -- Used by the proofs and the laws of send, and by the theorem on lists of calls (crtp).
-use Rattle.std.specs.Prelude.{ℕ, ◌+◌, ◌*◌, ◌≤◌, ◌≡◌, Bool, true, false, cond, not, List, eqb, length}
+use Rattle.std.specs.Prelude.{ℕ, ◌+◌, ◌*◌, ◌≤◌, ◌≡◌, Bool, true, false, cond, not, Option, Some, None, is_some, List, eqb, length}
 use Rattle.std.proofs.Common.{arith}
-use Rattle.codes.specs.Code.{code_of}
 use Rattle.codes.specs.CodeLaws.{length-code_of}
 use Rattle.packet.specs.declared.header.Header.{Header}
 use Rattle.packet.specs.declared.parts.Parts.{Parts}
-use Rattle.octets.specs.Put.{optional}
-use Rattle.octets.specs.PutLaws.{length-optional-le}
 use Rattle.headers.specs.Header.{header_size}
 use Rattle.headers.proofs.HeaderLaws.{length-header_bytes}
 use Rattle.headers.specs.Checksum.{ip_checksum}
+use Rattle.links.specs.Sent.{delta}
 use Rattle.links.specs.Fh.{ip_field, fh_bytes}
 use Rattle.links_write.specs.Size.{cu_size, cr_size}
 use Rattle.links_write.specs.SizeLaws.{length-cu_bytes, length-cr_bytes}
@@ -57,20 +55,21 @@ size-if : (w : Bool) (n : ℕ) → cond w n 0 ≤ n
 size-if true n = omega arith
 size-if false n = omega arith
 
-length-delta : (w d : ℕ) (sent : Bool) → length (optional sent (code_of w d)) ≤ 3
-length-delta w d sent = omega (arith, length-optional-le sent (code_of w d), length-code_of d w)
+length-delta : (w : ℕ) (o : Option ℕ) → length (delta w o) ≤ 3
+length-delta w (Some d) = omega (arith, length-code_of d w)
+length-delta w None = omega arith
 
 module _ (carried : Bool) (h : Parts) where
   cu_size-most : cu_size carried h ≤ 40 + 4 * h.csrc.count
   cu_size-most = omega (
     arith,
     size-if carried 2,
-    length-delta 16 h.did.value h.did.sent,
-    length-delta 32 h.dts.value h.dts.sent,
-    size-if h.id.sent 2,
-    size-if h.sequence.sent 2,
-    size-if h.timestamp.sent 4,
-    size-if h.payload.sent 1,
+    length-delta 16 h.did,
+    length-delta 32 h.dts,
+    size-if (is_some h.id) 2,
+    size-if (is_some h.sequence) 2,
+    size-if (is_some h.timestamp) 4,
+    size-if (is_some h.payload) 1,
   )
 
   cr_size-most : cr_size carried h ≤ 40 + 4 * h.csrc.count
@@ -78,9 +77,9 @@ module _ (carried : Bool) (h : Parts) where
     arith,
     size-if carried 2,
     size-if h.listed 1,
-    length-delta 16 h.did.value h.did.sent,
-    length-delta 16 h.dsn.value h.dsn.sent,
-    length-delta 32 h.dts.value h.dts.sent,
+    length-delta 16 h.did,
+    length-delta 16 h.dsn,
+    length-delta 32 h.dts,
   )
 
 module _ (h : Header) (a : Going) (w : Writable h a) where

@@ -1,7 +1,7 @@
 -- Iarwennol. Laws of a packet's step on a context, the first or a later one: it can be written, the context stays sound and within
 -- its types, and the relation of the two ends goes on. Assume nothing.
 -- Used by the proofs and the laws of send, and by the theorem on lists of calls (crtp).
-use Rattle.std.specs.Prelude.{ℕ, suc, ◌%◌, ◌≤◌, ◌<◌, ◌≡◌, Bool, true, ◌&&◌, eqb, length}
+use Rattle.std.specs.Prelude.{ℕ, suc, ◌%◌, ◌≤◌, ◌<◌, ◌≡◌, Bool, true, ◌&&◌, is_some, eqb, length}
 use Rattle.std.proofs.Math.Path.{refl, ap}
 use Rattle.std.proofs.Common.{sym, ◌∙◌, arith}
 use Rattle.std.proofs.Math.Bool.{false, and-eq-true_iff}
@@ -212,7 +212,7 @@ module _ (n : ℕ) (h : Header) (r : HeaderInRange h) (c : CompressorContext) wh
           timestamp = b.timestamp;
           payload = b.payload;
           unlisted = step-unlisted n h c;
-          second = λ e. absurd (not-second p.marker p.dsn.sent p.dts.sent p.did.sent b.dsn e);
+          second = λ e. absurd (not-second p.marker (is_some p.dsn) (is_some p.dts) (is_some p.did) (ap is_some b.dsn) e);
         }
 
   pub carried-step_on : Held c → sound_compressor n c ≡ true → Carried (step_on n h c)

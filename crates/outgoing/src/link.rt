@@ -24,34 +24,29 @@ pub fn kind_number(k: Kind) -> u8
 }
 
 // How many bytes go out before the rest of the packet.
+#[tactic(auto, unfolding(crate::specs::Size::link_size))]
 pub fn link_size(h: Header, a: Step) -> usize
     requires { Writable h (stepped a) }
     ensures { (result ≡ link_size h (stepped a)) × (result ≤ 100) }
 {
-    let after = a.context;
-    let carried = sends_checksum(after);
-    let parts = a.parts;
-    let kind = a.kind;
-    match kind {
+    let carried = sends_checksum(a.context);
+    match a.kind {
         Kind::FullHeader => header_size(h),
-        Kind::CompressedUdp => cu_size(carried, parts),
-        Kind::CompressedRtp => cr_size(carried, parts),
+        Kind::CompressedUdp => cu_size(carried, a.parts),
+        Kind::CompressedRtp => cr_size(carried, a.parts),
     }
 }
 
 // The bytes that go out on context i before the rest of a packet of total bytes.
+#[tactic(auto, unfolding(crate::specs::Outgoing::link_bytes, crate::specs::Size::link_size))]
 pub fn put_link(out: &mut [u8], i: u8, total: u16, h: Header, a: Step) -> usize
     requires { Writable h (stepped a) × (link_size h (stepped a) ≤ length out.old) }
     ensures { Wrote out.old out.new 0 result (link_bytes i total h (stepped a)) }
 {
-    let after = a.context;
-    let carried = sends_checksum(after);
-    let parts = a.parts;
-    let link = a.link;
-    let kind = a.kind;
-    match kind {
-        Kind::FullHeader => put_fh(out, 0, i, link.generation, link.sequence, total, h),
-        Kind::CompressedUdp => put_cu(out, 0, i, link.sequence, carried, parts),
-        Kind::CompressedRtp => put_cr(out, 0, i, link.sequence, carried, parts),
+    let carried = sends_checksum(a.context);
+    match a.kind {
+        Kind::FullHeader => put_fh(out, 0, i, a.link.generation, a.link.sequence, total, h),
+        Kind::CompressedUdp => put_cu(out, 0, i, a.link.sequence, carried, a.parts),
+        Kind::CompressedRtp => put_cr(out, 0, i, a.link.sequence, carried, a.parts),
     }
 }

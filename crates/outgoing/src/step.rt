@@ -8,12 +8,12 @@ use context::step::Step;
 use packet::header::Header;
 
 // The packet's step on a context: the first one, or one more.
+#[tactic(auto, unfolding(crate::specs::Outgoing::step_on))]
 pub fn step_on(n: u8, h: Header, c: CompressorContext) -> Step
     requires { n ≤ 14 }
     ensures { stepped result ≡ step_on n h c }
 {
-    let status = c.status;
-    match status {
+    match c.status {
         Usage::Empty => compress::step::first_packet(
             n,
             h,

@@ -1,5 +1,5 @@
 -- Iarwennol. Laws of the CSRC list. Assume nothing.
--- Used by the proof of same_words, and by the relation (context), where equal answers must mean equal lists.
+-- Used by the relation (context), where equal answers must mean equal lists.
 use Rattle.std.specs.Prelude.{ℕ, ◌+◌, ◌<◌, ◌≤◌, ◌≡◌, refl, Bool, true, ◌&&◌, List, [], ◌∷◌, eqb, length, get_or, drop}
 use Rattle.std.proofs.Common.{add-one, eqb-true, eq-eqb, drop_of_length-le, drop-cons}
 use Rattle.std.proofs.Math.Bool.{and-true, and_assoc, and-eq-true_iff}
@@ -20,7 +20,7 @@ pub same_refl : (l : List ℕ) → same l l ≡ true
 same_refl [] = refl
 same_refl (x ∷ l) = rw (eq-eqb x x refl, same_refl l)
 
--- one place further, and past the last, for the loop that compares
+-- one place further, and past the last
 module _ (a b : List ℕ) (i : ℕ) (ok : Bool) where
   pub same_drop : i < length a → i < length b
       → (ok && same (drop i a) (drop i b)) ≡ (ok && eqb (get_or a i 0) (get_or b i 0) && same (drop (i + 1) a) (drop (i + 1) b))

@@ -1,6 +1,5 @@
 pub mod Csrc
 pub mod CsrcLaws
-pub mod Sent
 pub mod Ranges
 pub mod RangesLaws
 pub mod Types

@@ -1,7 +1,7 @@
 -- Iarwennol. Ranges of numbers: what a header, a CSRC list, a field that may be sent and the parts of a link packet can hold.
 -- As far as bytes leave room for it, or as far as a context keeps it (rule 2.3); each range stands here alone.
 -- Used by contracts that ask for a number's range, and as what the laws of every layer start from.
-use Rattle.std.specs.Prelude.{ℕ, ◌-◌, ◌^◌, ◌≤◌, ◌<◌, ◌≡◌, Bool, true, cond, length, get_or, drop, replicate}
+use Rattle.std.specs.Prelude.{ℕ, ◌-◌, ◌^◌, ◌≤◌, ◌<◌, ◌≡◌, Bool, true, cond, length, get_or, drop, replicate, IfSome}
 use Rattle.codes.specs.Difference.{has_code}
 use Rattle.packet.specs.declared.csrc.Csrc.{Csrc}
 use Rattle.packet.specs.declared.header.Flow.{Flow}
@@ -75,7 +75,7 @@ pub record HeaderSound (w : RtpHeader) : Type 0 where
 
 ---- Parts of a link packet
 
--- a field of w bits that may be sent: 0 where it is not
+-- a number of w bits that is carried or not: 0 where it is not
 pub record Sendable (w : ℕ) (sent : Bool) (value : ℕ) : Type 0 where
   pub fits : value < 2 ^ w
   pub blank : cond sent value 0 ≡ value
@@ -83,18 +83,18 @@ pub record Sendable (w : ℕ) (sent : Bool) (value : ℕ) : Type 0 where
 -- rules 6.2, 6.3: parts that a CU with F, or a CR, can carry; carried: the context carries the UDP checksum
 pub record PartsFit (carried : Bool) (h : Parts) : Type 0 where
   pub checksum : Sendable 16 carried h.checksum
-  pub id : Sendable 16 h.id.sent h.id.value
-  pub sequence : Sendable 16 h.sequence.sent h.sequence.value
-  pub timestamp : Sendable 32 h.timestamp.sent h.timestamp.value
-  pub payload : Sendable 7 h.payload.sent h.payload.value
-  pub did : Sendable 16 h.did.sent h.did.value
-  pub dsn : Sendable 16 h.dsn.sent h.dsn.value
-  pub dts : Sendable 32 h.dts.sent h.dts.value
-  pub coded : h.dts.sent ≡ true → has_code 32 h.dts.value ≡ true
+  pub id : IfSome h.id (λ v. v < 2 ^ 16)
+  pub sequence : IfSome h.sequence (λ v. v < 2 ^ 16)
+  pub timestamp : IfSome h.timestamp (λ v. v < 2 ^ 32)
+  pub payload : IfSome h.payload (λ v. v < 2 ^ 7)
+  pub did : IfSome h.did (λ v. v < 2 ^ 16)
+  pub dsn : IfSome h.dsn (λ v. v < 2 ^ 16)
+  pub dts : IfSome h.dts (λ v. v < 2 ^ 32)
+  pub coded : IfSome h.dts (λ v. has_code 32 v ≡ true)
   pub list : ListInRange h.csrc
 
 -- parts that leave a sound context sound (rule 2.3)
 pub record PartsSound (h : Parts) : Type 0 where
-  pub payload : h.payload.value < 128
-  pub coded : has_code 32 h.dts.value ≡ true
+  pub payload : IfSome h.payload (λ v. v < 128)
+  pub coded : IfSome h.dts (λ v. has_code 32 v ≡ true)
   pub list : ListSound h.csrc

@@ -1,4 +1,4 @@
--- Iarwennol. Laws of the ranges of a CSRC list, of a field that may be sent, and of the parts of a link packet. Assume nothing.
+-- Iarwennol. Laws of the ranges of a CSRC list, of a number that may be carried, and of the parts of a link packet. Assume nothing.
 -- Used by the laws of what is read (headers, fields, links), and by soundness (context).
 use Rattle.std.specs.Prelude.{ℕ, zero, suc, ◌^◌, ◌<◌, ◌≡◌, refl, Bool, true, false, cond, get_or, replicate}
 use Rattle.std.proofs.Common.{subst, arith, pow_pos}
@@ -38,8 +38,8 @@ coded-sent false v b h = subst (λ (x : ℕ). has_code 32 x ≡ true) b refl
 
 pub parts-sound : {carried : Bool} {h : Parts} → PartsFit carried h → PartsSound h
 parts-sound {carried} {h} f = record {
-  payload = f.payload.fits;
-  coded = coded-sent h.dts.sent h.dts.value f.dts.blank f.coded;
+  payload = f.payload;
+  coded = f.coded;
   list = range-sound f.list;
 }
 

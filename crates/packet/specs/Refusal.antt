@@ -1,14 +1,14 @@
 -- Iarwennol. The refusals, and what is found of a packet before its call answers.
 -- Which of the numbers (codes/specs/Numbers.antt) each case of the code has, and back.
 -- Used by everything that judges, and by the answers of every call.
-use Rattle.std.specs.Prelude.{ℕ, Bool, true, false, cond, List, [], ◌∷◌, eqb}
+use Rattle.std.specs.Prelude.{ℕ, Bool, cond, List, [], ◌∷◌, eqb, Result, Ok, Err, is_ok, ⊤}
 use Rattle.codes.specs.Numbers.{unsound, bad_length, unknown_type, cut, forbidden, no_such_context, unused_code}
 use Rattle.codes.specs.Numbers.{not_live, out_of_step, too_long, no_room, disproved}
+use Rattle.codes.specs.declared.cursor.Unreadable.{Unreadable}
+use Rattle.codes.specs.declared.cursor.Unreadable.TheVariants as unreadable
 use Rattle.packet.specs.declared.refusal.Refusal.{Refusal}
 use Rattle.packet.specs.declared.refusal.Refusal.TheVariants.{Unsound, BadLength, UnknownType, Cut, Forbidden, NoSuchContext}
 use Rattle.packet.specs.declared.refusal.Refusal.TheVariants.{UnusedCode, NotLive, OutOfStep, TooLong, NoRoom, Disproved}
-use Rattle.packet.specs.declared.refusal.Verdict.{Verdict}
-use Rattle.packet.specs.declared.refusal.Verdict.TheVariants.{Accepted, Refused}
 
 -- rule 3.1
 abbrev pub number_of : Refusal → ℕ
@@ -25,10 +25,14 @@ number_of TooLong = too_long
 number_of NoRoom = no_room
 number_of Disproved = disproved
 
+-- what is found of a packet, or of the part of it that was looked at so far
+abbrev pub Verdict : Type 0
+Verdict = Result ⊤ Refusal
+
 -- rule 3.1: 0 where it is accepted
 abbrev pub verdict_number : Verdict → ℕ
-verdict_number Accepted = 0
-verdict_number (Refused r) = number_of r
+verdict_number (Ok u) = 0
+verdict_number (Err r) = number_of r
 
 -- every refusal, and the verdict that has a number
 abbrev pub refusals : List Refusal
@@ -36,15 +40,19 @@ refusals = Unsound ∷ BadLength ∷ UnknownType ∷ Cut ∷ Forbidden ∷ NoSuc
     ∷ NoRoom ∷ Disproved ∷ []
 
 abbrev pub verdict_among : List Refusal → ℕ → Verdict
-verdict_among [] n = Accepted
-verdict_among (r ∷ rs) n = cond (eqb (number_of r) n) (Refused r) (verdict_among rs n)
+verdict_among [] n = Ok tt
+verdict_among (r ∷ rs) n = cond (eqb (number_of r) n) (Err r) (verdict_among rs n)
 
 abbrev pub verdict_of : ℕ → Verdict
 verdict_of n = verdict_among refusals n
 
 abbrev pub is_accepted : Verdict → Bool
-is_accepted Accepted = true
-is_accepted (Refused r) = false
+is_accepted v = is_ok v
+
+-- rule 3.1: what a field is refused with that cannot be read
+abbrev pub refusal_of : Unreadable → Refusal
+refusal_of unreadable.Cut = Cut
+refusal_of unreadable.UnusedCode = UnusedCode
 
 -- of two numbers the first that is a refusal's
 abbrev pub first_refusal : ℕ → ℕ → ℕ

@@ -1,13 +1,12 @@
 -- Iarwennol. Laws of the refusals. Assume nothing.
 -- Used wherever a call's answer is told from its number.
-use Rattle.std.specs.Prelude.{ℕ, ◌≤◌, ◌≡◌, refl, Bool, true, false, cond, eqb}
-use Rattle.std.proofs.Common.{arith, ne_eqb, eqb-true}
+use Rattle.std.specs.Prelude.{ℕ, ◌≤◌, ◌≡◌, refl, Bool, true, false, cond, eqb, Ok, Err}
+use Rattle.std.proofs.Common.{arith, sym, ne_eqb, eqb-true}
 use Rattle.std.proofs.lemmas.Bool.{eqb-false}
 use Rattle.packet.specs.declared.refusal.Refusal.{Refusal}
 use Rattle.packet.specs.declared.refusal.Refusal.TheVariants.{Unsound, BadLength, UnknownType, Cut, Forbidden, NoSuchContext}
 use Rattle.packet.specs.declared.refusal.Refusal.TheVariants.{UnusedCode, NotLive, OutOfStep, TooLong, NoRoom, Disproved}
-use Rattle.packet.specs.declared.refusal.Verdict.TheVariants.{Refused}
-use Rattle.packet.specs.Refusal.{number_of, verdict_of, first_refusal}
+use Rattle.packet.specs.Refusal.{Verdict, number_of, verdict_number, verdict_of, is_accepted, first_refusal}
 
 -- no refusal has the number of an acceptance
 pub number_of-least : (r : Refusal) → 1 ≤ number_of r
@@ -28,8 +27,13 @@ number_of-least Disproved = omega arith
 pub number_of-refused : (r : Refusal) → eqb (number_of r) 0 ≡ false
 number_of-refused r = ne_eqb (number_of r) 0 (λ e. omega (arith, number_of-least r))
 
+-- what is accepted is told by its number, 0
+pub is_accepted-number : (v : Verdict) → is_accepted v ≡ eqb (verdict_number v) 0
+is_accepted-number (Ok u) = refl
+is_accepted-number (Err r) = sym (number_of-refused r)
+
 -- a refusal is told from its number
-pub verdict_of-number_of : (r : Refusal) → verdict_of (number_of r) ≡ Refused r
+pub verdict_of-number_of : (r : Refusal) → verdict_of (number_of r) ≡ Err r
 verdict_of-number_of Unsound = refl
 verdict_of-number_of BadLength = refl
 verdict_of-number_of UnknownType = refl

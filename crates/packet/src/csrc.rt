@@ -1,5 +1,5 @@
 ghost use Rattle.std.specs.Prelude.{◌≡◌};
-ghost use Rattle.packet.specs.Csrc.{same, same_list, no_list};
+ghost use Rattle.packet.specs.Csrc.{same_list, no_list};
 
 // The list of contributing sources.
 //
@@ -26,22 +26,10 @@ pub fn no_list() -> Csrc
     }
 }
 
-// Whether two arrays of fifteen words are equal. (The language compares no arrays.)
-fn same_words(a: [u32; Csrc::PLACES], b: [u32; Csrc::PLACES]) -> bool
-    ensures { result ≡ same a b }
-{
-    let mut ok = true;
-    for i in 0..Csrc::PLACES {
-        ok = ok & (a[i] == b[i]);
-    }
-    ok
-}
-
 // Whether two lists are equal, compared whole.
+#[tactic(auto, unfolding(crate::specs::Csrc::same_list))]
 pub fn same_list(a: Csrc, b: Csrc) -> bool
     ensures { result ≡ same_list a b }
 {
-    let words = a.words;
-    let others = b.words;
-    (a.count == b.count) & same_words(words, others)
+    (a.count == b.count) & (a.words == b.words)
 }

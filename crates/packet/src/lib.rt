@@ -9,4 +9,3 @@ pub mod csrc;
 pub mod header;
 pub mod parts;
 pub mod refusal;
-pub mod sent;

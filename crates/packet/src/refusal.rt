@@ -1,5 +1,7 @@
 ghost use Rattle.std.specs.Prelude.{◌≡◌};
-ghost use Rattle.packet.specs.Refusal.{is_accepted};
+ghost use Rattle.packet.specs.Refusal.{refusal_of};
+
+use codes::cursor::Unreadable;
 
 // Why a call is refused (rule 3.1); `specs/Refusal.antt` has the number of each.
 #[derive(Clone, Copy)]
@@ -18,18 +20,13 @@ pub enum Refusal {
     Disproved,
 }
 
-// What is found of a packet, or of the part of it that was looked at so far: a call that finds a refusal answers it.
-#[derive(Clone, Copy)]
-pub enum Verdict {
-    Accepted,
-    Refused(Refusal),
-}
+impl From<Unreadable> for Refusal {
+    ghost from_gives = { λ why r. r ≡ refusal_of why };
 
-pub fn is_accepted(v: Verdict) -> bool
-    ensures { result ≡ is_accepted v }
-{
-    match v {
-        Verdict::Accepted => true,
-        Verdict::Refused(_) => false,
+    fn from(why: Unreadable) -> Refusal {
+        match why {
+            Unreadable::Cut => Refusal::Cut,
+            Unreadable::UnusedCode => Refusal::UnusedCode,
+        }
     }
 }

@@ -1,21 +1,11 @@
 -- Iarwennol. Laws of a test that every place passes. Assume nothing.
--- Used by the walks over a table: a loop over a plane, and planes first or places first.
-use Rattle.std.specs.Prelude.{ℕ, zero, suc, ◌+◌, ◌≤◌, ◌<◌, ◌≡◌, refl, Bool, true, false, ◌&&◌, ◌||◌, eqb, ltb, drop}
-use Rattle.std.proofs.Common.{sym, ◌∙◌, ap, add-one, add-zero, arith, eqb-true, lt-ltb, le-ltb, ltb-true, ltb-false}
-use Rattle.std.proofs.Math.Bool.{and-true, and_assoc, and-eq-true_iff}
+-- Used by the walks over a table: planes first or places first, and what a test of all places says of one.
+use Rattle.std.specs.Prelude.{ℕ, zero, suc, ◌+◌, ◌<◌, ◌≡◌, refl, Bool, true, false, ◌&&◌, ◌||◌, eqb, ltb, List, drop}
+use Rattle.std.proofs.Common.{sym, ◌∙◌, ap, add-zero, arith, eqb-true, lt-ltb, le-ltb, ltb-true, ltb-false}
+use Rattle.std.proofs.Math.Bool.{or-true, and-true, and_assoc, and-eq-true_iff}
 use Rattle.std.proofs.lemmas.Bool.{eqb-false}
 use Rattle.context.specs.All.{all}
-use Rattle.planes.specs.Planes.{every, places}
-
----- a loop
-
--- one more place
-pub every_more : (f : ℕ → Bool) (i : ℕ) (ok : Bool) → ok ≡ every f i → (ok && f i) ≡ every f (i + 1)
-every_more f i ok h = rw (add-one, h)
-
--- past the last
-pub every-done : (f : ℕ → Bool) (i n : ℕ) (ok : Bool) → ok ≡ every f i → i ≤ n → n ≤ i → ok ≡ every f n
-every-done f i n ok h a b = let e : i ≡ n = omega arith in h ∙ ap (every f) e
+use Rattle.planes.specs.Planes.{every, places, cell, past_at}
 
 ---- two tests
 
@@ -63,6 +53,15 @@ passed u z e = rw e
 pub every_made : (f : ℕ → Bool) (n : ℕ) → ((i : ℕ) → i < n → f i ≡ true) → every f n ≡ true
 every_made f zero h = refl
 every_made f (suc n) h = rw (every_made f n (λ i a. h i (omega arith)), h n (omega arith))
+
+---- a plane without words
+
+pub free-past : (f c : ℕ) (w b : List ℕ) (k : ℕ) → every (λ (i : ℕ). eqb (cell w (f + k) i) 0) 64 ≡ true
+    → true ≡ every (past_at f c w b k) 64
+free-past f c w b k e = sym (every_made (past_at f c w b k) 64 (λ i h. rw (
+  every-at (λ (i : ℕ). eqb (cell w (f + k) i) 0) 64 i h e,
+  or-true (ltb k (cell b c i)),
+)))
 
 ---- a list of what a function gives at places
 

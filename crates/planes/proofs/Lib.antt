@@ -1,3 +1,5 @@
 pub mod PlanesLaws
 pub mod EveryLaws
+pub mod LoopLaws
+pub mod RowLaws
 pub mod ChainLaws

@@ -1,15 +1,21 @@
 -- Iarwennol. Laws of planes: a row that is replaced is read back, and no other changes. Assume nothing.
 -- Used by the reading and writing of contexts.
-use Rattle.std.specs.Prelude.{ℕ, zero, suc, ◌+◌, ◌*◌, ◌<◌, ◌≤◌, ◌≢◌, ◌≡◌, refl, List, [], ◌∷◌, ◌++◌, length, get_or, set, take}
-use Rattle.std.specs.Prelude.{drop, replicate}
-use Rattle.std.proofs.Common.{sym, ap, ◌∙◌, add-one, add-zero, zero-add, arith, length-set, drop_of_length-le, drop-cons}
-use Rattle.std.proofs.Common.{get_or-set_same, get_or-set_other, set-set, take-suc-set, take_all}
-use Rattle.std.proofs.lemmas.List.{replicate-append-replicate, set-get_or, set_comm}
+use Rattle.std.specs.Prelude.{ℕ, zero, suc, ◌+◌, ◌*◌, ◌<◌, ◌≤◌, ◌≢◌, ◌≡◌, refl, List, [], ◌∷◌, length, get_or, set}
+use Rattle.std.specs.Prelude.{◌++◌, drop, replicate}
+use Rattle.std.proofs.Common.{sym, ap, ◌∙◌, add-zero, zero-add, arith, length-set, drop_of_length-le, drop-cons}
+use Rattle.std.proofs.Common.{get_or-set_same, get_or-set_other, set-set}
+use Rattle.std.proofs.lemmas.List.{set-get_or, set_comm}
 use Rattle.planes.specs.Planes.{row, replaced, places}
 
-pub length-replaced : (vs l : List ℕ) (i f : ℕ) → length (replaced l i f vs) ≡ length l
+pub length-replaced : {A : Type 0} (vs l : List A) (i f : ℕ) → length (replaced l i f vs) ≡ length l
 length-replaced [] l i f = refl
 length-replaced (v ∷ vs) l i f = length-replaced vs (set l (64 * f + i) v) i (suc f) ∙ length-set l (64 * f + i) v
+
+-- a row in two parts, one after the other
+pub replaced_append : {A : Type 0} (vs ws l : List A) (i f g : ℕ) → g ≡ f + length vs
+    → replaced (replaced l i f vs) i g ws ≡ replaced l i f (vs ++ ws)
+replaced_append [] ws l i f g e = ap (λ (x : ℕ). replaced l i x ws) (e ∙ add-zero f)
+replaced_append (v ∷ vs) ws l i f g e = replaced_append vs ws (set l (64 * f + i) v) i (suc f) g (omega (arith, e))
 
 ---- another row
 
@@ -80,15 +86,6 @@ pub set-replaced : (k l vs : List ℕ) (i f v : ℕ) → k ≡ replaced l i 0 vs
     → set k (64 * (0 + f) + i) v ≡ replaced l i 0 (set vs f v)
 set-replaced k l vs i f v e s h = ap (λ (x : List ℕ). set x (64 * (0 + f) + i) v) e ∙ replaced-set vs l i 0 f v s h
 
----- a loop that replaces a row
-
-pub replaced-step : (l r : List ℕ) (i f : ℕ) → f < length r
-    → replaced l i f (drop f r) ≡ replaced (set l (64 * f + i) (get_or r f 0)) i (f + 1) (drop (f + 1) r)
-replaced-step l r i f h = rw (add-one, drop-cons r f 0 h)
-
-pub replaced-end : (l r : List ℕ) (i f : ℕ) → length r ≤ f → replaced l i f (drop f r) ≡ l
-replaced-end l r i f h = rw (drop_of_length-le r h)
-
 ---- nothing but zeros
 
 pub get_d-zeros : (n x : ℕ) → ◌≡◌ {A = ℕ} (get_or (replicate n 0) x 0) 0
@@ -100,19 +97,6 @@ pub row-zeros : (l : List ℕ) (i f n : ℕ) → i < 64 → ((x : ℕ) → x < 6
 row-zeros l i f zero a h = refl
 row-zeros l i f (suc n) a h =
     (λ j. h (64 * f + i) (omega arith) j ∷ row-zeros l i (suc f) n a (λ x b. h x (omega arith)) j)
-
--- a loop that clears
-pub clear-more : (l : List ℕ) (i : ℕ) → i < length l → take i l ≡ replicate i 0 → take (i + 1) (set l i 0) ≡ replicate (i + 1) 0
-clear-more l i h e =
-    ap (λ (k : ℕ). take k (set l i 0)) (sym (suc-is i)) ∙ take-suc-set l i 0 h ∙ ap (λ (r : List ℕ). r ++ (0 ∷ [])) e
-    ∙ replicate-append-replicate i 1 0
-  where
-    suc-is : (k : ℕ) → suc k ≡ k + 1
-    suc-is k = omega arith
-
-pub clear-done : (l : List ℕ) (i n : ℕ) → length l ≡ n → n ≤ i → take i l ≡ replicate i 0 → i ≤ n → l ≡ replicate n 0
-clear-done l i n s h e g =
-    let q : i ≡ n = omega arith in sym (take_all i l (omega (arith, s))) ∙ e ∙ ap (λ (k : ℕ). replicate k 0) q
 
 ---- places
 

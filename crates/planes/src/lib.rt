@@ -2,7 +2,11 @@
 //
 // `specs/Planes.antt` says how a plane is read and what three slices that hold a table are; `proofs/PlanesLaws.antt` and
 // `proofs/EveryLaws.antt` have what holds of a row that is replaced and of a walk over all places.
+// The code is what the walks of both ends share.
 #![tactic(auto)]
 
-pub mod clear;
+pub mod every;
+pub mod flow;
+pub mod lists;
 pub mod numbers;
+pub mod row;

@@ -14,7 +14,7 @@ use Rattle.packet.specs.Refusal.{number_of}
 use Rattle.packet.specs.RefusalLaws.{number_of-refused}
 use Rattle.packet.specs.declared.refusal.Refusal.{Refusal}
 use Rattle.context.specs.declared.decompressor.DecompressorContext.{DecompressorContext}
-use Rattle.decompressor.specs.declared.answer.Outcome.TheVariants.{Accepted, Refused}
+use Rattle.std.specs.Prelude.{Ok, Err}
 use Rattle.decompressor.specs.declared.old.OldForm.{OldForm}
 use Rattle.decompressor.specs.declared.table.Table.{Table}
 use Rattle.decompressor.specs.Answer.{Result, said}
@@ -70,9 +70,9 @@ module _ (l : Lent) (i : ℕ) (f : Fits l) (h : i < 64) where
 
 -- a full header that was accepted, and the context that it set
 pub gives-full : (l after : Lent) (i n : ℕ) (c : DecompressorContext) (output : List ℕ) (want : Result) → Puts l i c after
-    → said (Accepted n) (with_context (table_of l) i c) output ≡ want → Gives l after (Accepted n) output want
+    → said (Ok n) (with_context (table_of l) i c) output ≡ want → Gives l after (Ok n) output want
 gives-full l after i n c output want p e =
-    gives-accepted l after n output want (ap (λ (t : Table). said (Accepted n) t output) p.table ∙ e)
+    gives-accepted l after n output want (ap (λ (t : Table). said (Ok n) t output) p.table ∙ e)
 
 ---- receive_full, by how its bytes are judged
 
@@ -82,6 +82,6 @@ module _ (t : Table) (s output : List ℕ) where
   full-good e = rw e
 
   pub full-refused : (why : Refusal) → fh_judged t.settings.contexts s ≡ number_of why
-      → said (Refused why) t output ≡ receive_full t s output
+      → said (Err why) t output ≡ receive_full t s output
   unfolding receive_full
   full-refused why e = rw (e, number_of-refused why)

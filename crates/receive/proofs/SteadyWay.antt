@@ -13,11 +13,11 @@ use Rattle.octets.specs.PutLaws.{wrote-front}
 use Rattle.octets.specs.declared.flags.Flags.{Flags}
 use Rattle.codes.specs.Reading.{Reading}
 use Rattle.fields.specs.declared.place.Place.{Place}
-use Rattle.fields.specs.declared.place.Got16.{Got16}
-use Rattle.fields.specs.Place.{passed, got8, got16, got32}
-use Rattle.fields.specs.Next.{next, next_byte, next_word, next_delta16, next_delta32}
+use Rattle.fields.specs.declared.place.Got.{Got}
+use Rattle.fields.specs.Place.{passed, or_zero}
+use Rattle.fields.specs.Next.{next, next_as, next_byte, next_word, next_delta16, next_delta32}
 use Rattle.fields.proofs.NextRange.{next_word-within}
-use Rattle.packet.specs.Refusal.{is_accepted}
+use Rattle.packet.specs.Refusal.{Verdict, is_accepted}
 use Rattle.packet.specs.Ranges.{Narrow}
 use Rattle.packet.specs.declared.header.Header.{Header}
 use Rattle.headers.specs.Header.{header_size}
@@ -31,7 +31,8 @@ use Rattle.decompressor_steady.specs.Steady.{is_next, moved_to, one_step_on}
 use Rattle.context.specs.declared.decompressor.Status.{Status}
 use Rattle.context.specs.declared.decompressor.DecompressorContext.{DecompressorContext}
 use Rattle.decompressor_steady.proofs.Rules.{Next, is_next-true, one_step_on-moved, bare_parts, applied-bare}
-use Rattle.decompressor.specs.declared.answer.Outcome.TheVariants.{Accepted}
+use Rattle.std.specs.Prelude.{Ok, Err, is_err, None, IfSome}
+use Rattle.std.specs.Bool.{then_some}
 use Rattle.decompressor.specs.declared.old.OldForm.{OldForm}
 use Rattle.decompressor.specs.declared.table.Table.{Table}
 use Rattle.decompressor.specs.Answer.{Result}
@@ -74,7 +75,7 @@ either-false true b e = absurd (false≢true (sym e))
 either-false false b e = (refl, e)
 
 module _ (kind : ℕ) (c : DecompressorContext) (h : Head) (s : List ℕ) (room : ℕ) (within : h.place.cursor.at ≤ length s)
-    (steady : Bool) (w : Got16) (found : Bool) where
+    (steady : Bool) (w : Got ℕ) (found : Bool) where
   abbrev size : ℕ
   size = 40 + (length s - w.place.cursor.at)
 
@@ -86,8 +87,7 @@ module _ (kind : ℕ) (c : DecompressorContext) (h : Head) (s : List ℕ) (room 
 
   pub steadily-made : steady ≡ is_steady h.flags c → (eqb kind 2 || not steady) ≡ false → w ≡ word_past c h s
       → found ≡ is_accepted w.place.verdict → test ≡ true
-      → (eqb kind 2 ≡ false)
-      × Steadily c h s room (record { goes = test; sent = w.field.value; start = w.place.cursor.at })
+      → (eqb kind 2 ≡ false) × Steadily c h s room (record { sent = or_zero w.field; start = w.place.cursor.at })
   steadily-made y t e a g =
       let o = either-false (eqb kind 2) (not steady) t in
       let p = (and-eq-true_iff (found && leb size 1500) (leb size room)).0 g in
@@ -95,31 +95,45 @@ module _ (kind : ℕ) (c : DecompressorContext) (h : Head) (s : List ℕ) (room 
         o.0,
         record {
           steady = sym y ∙ not-false steady o.1;
-          whole = ap (λ (x : Got16). is_accepted x.place.verdict) (sym e) ∙ sym a ∙ q.0;
-          sent = ap (λ (x : Got16). x.field.value) e;
-          start = ap (λ (x : Got16). x.place.cursor.at) e;
+          whole = ap (λ (x : Got ℕ). is_accepted x.place.verdict) (sym e) ∙ sym a ∙ q.0;
+          sent = ap (λ (x : Got ℕ). or_zero x.field) e;
+          start = ap (λ (x : Got ℕ). x.place.cursor.at) e;
           within = word-within e;
           allowed = leb-true size 1500 q.1;
           fits = leb-true size room p.1;
         },
       )
 
+-- a verdict, by whether it is a refusal
+pub accepted_if : (v : Verdict) (b : Bool) → b ≡ is_err v → b ≡ false → is_accepted v ≡ true
+accepted_if (Ok u) b e f = refl
+accepted_if (Err r) b e f = absurd (false≢true (sym f ∙ e))
+
+pub refused_if : (v : Verdict) (b : Bool) → b ≡ is_err v → b ≡ true → is_accepted v ≡ false
+refused_if (Ok u) b e f = absurd (false≢true (sym e ∙ f))
+refused_if (Err r) b e f = refl
+
+-- what is given where a test holds is as the test makes it
+pub if_then_some : {A : Type 0} (P : A → Type 0) (b : Bool) (x : A) → (b ≡ true → P x) → IfSome (then_some b x) P
+if_then_some P true x h = h refl
+if_then_some P false x h = tt
+
 ---- the fields of a CR without any but its checksum
 
 next-unwanted : (read : ℕ → Reading) (p : Place) → next read p false ≡ passed p
-unfolding next
+unfolding next_as
 next-unwanted read p = rw (and-false (is_accepted p.verdict))
 
 module _ (s : List ℕ) (p : Place) where
-  byte-unwanted : next_byte s p false ≡ got8 (passed p)
+  byte-unwanted : next_byte s p false ≡ passed p
   unfolding next_byte
   byte-unwanted = rw (next-unwanted _ p)
 
-  delta16-unwanted : next_delta16 s p false ≡ got16 (passed p)
+  delta16-unwanted : next_delta16 s p false ≡ passed p
   unfolding next_delta16
   delta16-unwanted = rw (next-unwanted _ p)
 
-  delta32-unwanted : next_delta32 s p false ≡ got32 (passed p)
+  delta32-unwanted : next_delta32 s p false ≡ passed p
   unfolding next_delta32
   delta32-unwanted = rw (next-unwanted _ p)
 
@@ -131,8 +145,8 @@ flags-bare : (f : Flags) (c : DecompressorContext) → Bare f c → f ≡ bare f
 flags-bare f c b = λ j. record { bit7 = f.bit7; bit6 = b.dsn j; bit5 = b.dts j; bit4 = b.did j; low = f.low }
 
 -- what is read of it, past the word w
-abbrev bare_read : (marker : Bool) → (w : Got16) → ReadParts
-bare_read marker w = record { place = w.place; parts = bare_parts marker w.field.value }
+abbrev bare_read : (marker : Bool) → (w : Got ℕ) → ReadParts
+bare_read marker w = record { place = w.place; parts = bare_parts marker (or_zero w.field) }
 
 module _ (s : List ℕ) (marker : Bool) (q : ℕ) where
   second-bare : (p : Place) → second_of s p (cr_flags_of (bare marker q))
@@ -143,9 +157,9 @@ module _ (s : List ℕ) (marker : Bool) (q : ℕ) where
   deltas-bare : (p : Place) → deltas_of s p (cr_flags_of (bare marker q))
       ≡ record {
         place = p;
-        did = record { sent = false; value = 0 };
-        dsn = record { sent = false; value = 0 };
-        dts = record { sent = false; value = 0 };
+        did = None;
+        dsn = None;
+        dts = None;
       }
   unfolding deltas_of
   deltas-bare p = rw (delta16-unwanted s p, delta16-unwanted s p, delta32-unwanted s p)
@@ -173,7 +187,7 @@ module _ (c : DecompressorContext) (sent : ℕ) (none : c.csrc.count ≡ 0) wher
   -- deliver: the packet at the front of the output, and the context at its place
   pub gives-delivered : (l after : Lent) (i : ℕ) (rest before out : List ℕ) (past : ℕ) (h : Header) → h ≡ rebuilt c sent
       → 40 + length rest ≤ length before → Puts l i c after → Wrote before out 0 past (packet_of h rest)
-      → Gives l after (Accepted (40 + length rest)) out (delivered_on (table_of l) i c sent rest before)
+      → Gives l after (Ok (40 + length rest)) out (delivered_on (table_of l) i c sent rest before)
   gives-delivered l after i rest before out past h e room p w =
       let n = length-bare rest in
       let r = at_most (40 + length rest) (length (packet_of (rebuilt c sent) rest)) (length before) n room in
@@ -250,7 +264,7 @@ module _ (t : Table) (i : ℕ) (c : DecompressorContext) (h : Head) (s output : 
   abbrev marker : Bool
   marker = h.flags.bit7
 
-  abbrev word : Got16
+  abbrev word : Got ℕ
   word = word_past c h s
 
   abbrev on : DecompressorContext
@@ -270,17 +284,17 @@ module _ (t : Table) (i : ℕ) (c : DecompressorContext) (h : Head) (s output : 
 
   -- what its context makes of them
   parts-applied : receive_parts (bare_read marker word) t i q s output
-      ≡ settle_read word.place (accepted_as 1 on) t i word.field.value s output
-  parts-applied = ap (λ (z : Effect). settle_read word.place z t i word.field.value s output)
-      (ap (λ (d : DecompressorContext). applied t.settings.repeats q d (bare_parts marker word.field.value)) e
-      ∙ applied-bare q c marker word.field.value t.settings.repeats steadily-bare.next.step)
+      ≡ settle_read word.place (accepted_as 1 on) t i (or_zero word.field) s output
+  parts-applied = ap (λ (z : Effect). settle_read word.place z t i (or_zero word.field) s output)
+      (ap (λ (d : DecompressorContext). applied t.settings.repeats q d (bare_parts marker (or_zero word.field))) e
+      ∙ applied-bare q c marker (or_zero word.field) t.settings.repeats steadily-bare.next.step)
 
   -- the packet
-  settled-bare : settle_read word.place (accepted_as 1 on) t i word.field.value s output
+  settled-bare : settle_read word.place (accepted_as 1 on) t i (or_zero word.field) s output
       ≡ delivered_on t i on x.sent (drop x.start s) output
   settled-bare =
-      settle-whole word.place 1 on t i word.field.value s output y.whole
-      ∙ rebuild_to-bare t i on word.field.value (drop word.place.cursor.at s) output
+      settle-whole word.place 1 on t i (or_zero word.field) s output y.whole
+      ∙ rebuild_to-bare t i on (or_zero word.field) (drop word.place.cursor.at s) output
       (step_count q marker c steadily-bare.next.unlisted) rest-short
       ∙ (λ j. delivered_on t i on (sym y.sent j) (drop (sym y.start j) s) output)
 

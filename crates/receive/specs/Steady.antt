@@ -2,7 +2,8 @@
 -- Used by the contracts of the functions on that way; that it leads where the rules do is proved, and need not be believed.
 use Rattle.std.specs.Prelude.{ℕ, ◌+◌, ◌-◌, ◌≤◌, ◌≡◌, Bool, true, not, ◌&&◌, List, length}
 use Rattle.octets.specs.declared.flags.Flags.{Flags}
-use Rattle.fields.specs.declared.place.Got16.{Got16}
+use Rattle.fields.specs.declared.place.Got.{Got}
+use Rattle.fields.specs.Place.{or_zero}
 use Rattle.fields.specs.Next.{next_word}
 use Rattle.links.specs.declared.head.Head.{Head}
 use Rattle.packet.specs.Refusal.{is_accepted}
@@ -20,14 +21,14 @@ abbrev pub is_steady : Flags → DecompressorContext → Bool
 is_steady f c = not f.bit6 && not f.bit5 && not f.bit4 && is_next f.low c
 
 -- the UDP checksum past the flag byte h
-abbrev pub word_past : DecompressorContext → Head → List ℕ → Got16
+abbrev pub word_past : DecompressorContext → Head → List ℕ → Got ℕ
 word_past c h s = next_word s h.place (checksum_read c)
 
 -- a CR that goes the short way, read to its end; room: how long the output is
 pub record Steadily (c : DecompressorContext) (h : Head) (s : List ℕ) (room : ℕ) (x : SteadyRead) : Type 0 where
   pub steady : is_steady h.flags c ≡ true
   pub whole : is_accepted (word_past c h s).place.verdict ≡ true
-  pub sent : x.sent ≡ (word_past c h s).field.value
+  pub sent : x.sent ≡ or_zero (word_past c h s).field
   pub start : x.start ≡ (word_past c h s).place.cursor.at
   pub within : x.start ≤ length s
   pub allowed : 40 + (length s - x.start) ≤ 1500

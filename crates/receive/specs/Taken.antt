@@ -10,7 +10,7 @@ use Rattle.context.specs.declared.decompressor.DecompressorContext.{Decompressor
 use Rattle.decompressor.specs.declared.table.Table.{Table}
 use Rattle.receive.specs.declared.settle.Taken.{Taken}
 use Rattle.receive.specs.declared.settle.Arrived.{Arrived}
-use Rattle.decompressor.specs.declared.answer.Outcome.{Outcome}
+use Rattle.decompressor.specs.Answer.{Outcome}
 use Rattle.decompressor.specs.Answer.{Result, refused, delivered, number_of, length_of, said}
 use Rattle.decompressor.specs.Receive.{packet_of, full_table, receive_plain, settle_read, receive_on}
 use Rattle.links.specs.Fh.{fh_of}

@@ -3,7 +3,7 @@
 use Rattle.std.specs.Prelude.{ℕ, zero, suc, ◌+◌, ◌≤◌, ◌<◌, ◌≡◌, refl, Bool, true, false, cond, not, ◌&&◌, List, [], ◌∷◌, eqb, ltb}
 use Rattle.std.specs.Prelude.{length, get_or, set}
 use Rattle.std.proofs.Math.Path.{sym, ap}
-use Rattle.std.proofs.Common.{◌∙◌, arith, lt-ltb, le-ltb}
+use Rattle.std.proofs.Common.{◌∙◌, ◌⊎◌, inl, inr, arith, lt-ltb, le-ltb}
 use Rattle.std.proofs.lemmas.Bool.{false≢true}
 use Rattle.octets.specs.Put.{fronted}
 use Rattle.headers.specs.Header.{header_size}
@@ -24,7 +24,7 @@ use Rattle.context.specs.declared.decompressor.Applied.{Applied}
 use Rattle.context.specs.declared.decompressor.Status.{Status}
 use Rattle.context.specs.declared.decompressor.Status.TheVariants.{Empty, Live, Broken}
 use Rattle.context.specs.declared.decompressor.DecompressorContext.{DecompressorContext}
-use Rattle.decompressor.specs.declared.answer.Outcome.TheVariants.{Accepted, Refused}
+use Rattle.std.specs.Prelude.{Ok, Err}
 use Rattle.decompressor.specs.declared.table.Table.{Table}
 use Rattle.receive.specs.declared.settle.Taken.{Taken}
 use Rattle.receive.specs.declared.settle.Arrived.{Arrived}
@@ -53,7 +53,7 @@ with_context-same t i c e = ap (with_context t i) (sym e)
 module _ (n : ℕ) (c : DecompressorContext) (output : List ℕ) where
   -- refused, with the context as it was
   pub takes-refused : (r : Refusal)
-      → Takes n c (record { outcome = Refused r; context = c }) output (λ t i. refused t (refusal.number_of r) output)
+      → Takes n c (record { outcome = Err r; context = c }) output (λ t i. refused t (refusal.number_of r) output)
   takes-refused r = record {
     anywhere = λ t i e f. ap (λ (u : Table). refused u (refusal.number_of r) output)
         (with_context-same t i c f);
@@ -61,13 +61,13 @@ module _ (n : ℕ) (c : DecompressorContext) (output : List ℕ) where
 
   -- refused, and the context left otherwise
   pub takes-broken : (r : Refusal) (d : DecompressorContext)
-      → Takes n c (record { outcome = Refused r; context = d }) output
+      → Takes n c (record { outcome = Err r; context = d }) output
       (λ t i. refused (with_context t i d) (refusal.number_of r) output)
   takes-broken r d = record { anywhere = λ t i e f. refl }
 
   -- accepted: the bytes are at the front of the output
   pub takes-accepted : (d : DecompressorContext) (m : ℕ) (bytes after : List ℕ) → m ≡ length bytes → after ≡ fronted output bytes
-      → Takes n c (record { outcome = Accepted m; context = d }) after (λ t i. accepted (with_context t i d) bytes output)
+      → Takes n c (record { outcome = Ok m; context = d }) after (λ t i. accepted (with_context t i d) bytes output)
   takes-accepted d m bytes after e w = record {
     anywhere = λ t i x y. λ j.
         record { number = 0; length = e j; output = w j; table = with_context t i d };
@@ -82,23 +82,23 @@ module _ (n : ℕ) (before c : DecompressorContext) (bytes output : List ℕ) (t
       cond (ltb 1500 total) (refused t 10 output)
       (cond wrong (refused (with_context t i (broke (context_at t i))) 12 output) (delivered t (with_context t i c) bytes output))
 
-  made-long : 1500 < total → Takes n before (record { outcome = Refused TooLong; context = before }) output (λ t i. made t i)
+  made-long : 1500 < total → Takes n before (record { outcome = Err TooLong; context = before }) output (λ t i. made t i)
   made-long h = rw (lt-ltb 1500 total h) (takes-refused n before output TooLong)
 
   module _ (h : total ≤ 1500) where
     made-wrong : (d : DecompressorContext) → d ≡ broke before → wrong ≡ true
-        → Takes n before (record { outcome = Refused Disproved; context = d }) output (λ t i. made t i)
+        → Takes n before (record { outcome = Err Disproved; context = d }) output (λ t i. made t i)
     made-wrong d b e = record {
       anywhere = λ t i x f. rw (le-ltb 1500 total h, e) (λ j. refused (with_context t i ((b ∙ ap broke (sym f)) j)) 12 output);
     }
 
     module _ (e : wrong ≡ false) where
       made-no_room : length output < length bytes
-          → Takes n before (record { outcome = Refused NoRoom; context = before }) output (λ t i. made t i)
+          → Takes n before (record { outcome = Err NoRoom; context = before }) output (λ t i. made t i)
       made-no_room r = rw (le-ltb 1500 total h, e, lt-ltb (length output) (length bytes) r) (takes-refused n before output NoRoom)
 
       made-accepted : (m : ℕ) (after : List ℕ) → length bytes ≤ length output → m ≡ length bytes → after ≡ fronted output bytes
-          → Takes n before (record { outcome = Accepted m; context = c }) after (λ t i. made t i)
+          → Takes n before (record { outcome = Ok m; context = c }) after (λ t i. made t i)
       made-accepted m after r f w = rw (le-ltb 1500 total h, e, le-ltb (length output) (length bytes) r)
           (takes-accepted n before output c m bytes after f w)
 
@@ -115,22 +115,22 @@ module _ (n g : ℕ) (before c : DecompressorContext) (sent : ℕ) (rest output 
   wrong = is_disproved c g packet
 
   pub rebuild_to-long : 1500 < size
-      → Takes n before (record { outcome = Refused TooLong; context = before }) output (λ t i. rebuild_to t i g c sent rest output)
+      → Takes n before (record { outcome = Err TooLong; context = before }) output (λ t i. rebuild_to t i g c sent rest output)
   rebuild_to-long h = made-long n before c packet output total wrong (omega arith)
 
   module _ (h : size ≤ 1500) where
     pub rebuild_to-wrong : (d : DecompressorContext) → d ≡ broke before → wrong ≡ true
-        → Takes n before (record { outcome = Refused Disproved; context = d }) output (λ t i. rebuild_to t i g c sent rest output)
+        → Takes n before (record { outcome = Err Disproved; context = d }) output (λ t i. rebuild_to t i g c sent rest output)
     rebuild_to-wrong d b w = made-wrong n before c packet output total wrong (omega arith) d b w
 
     module _ (undisproved : wrong ≡ false) (f : size ≡ length packet) where
       pub rebuild_to-no_room : length output < size
-          → Takes n before (record { outcome = Refused NoRoom; context = before }) output
+          → Takes n before (record { outcome = Err NoRoom; context = before }) output
           (λ t i. rebuild_to t i g c sent rest output)
       rebuild_to-no_room r = made-no_room n before c packet output total wrong (omega arith) undisproved (rw (← f) r)
 
       pub rebuild_to-accepted : (after : List ℕ) → size ≤ length output → after ≡ fronted output packet
-          → Takes n before (record { outcome = Accepted size; context = c }) after (λ t i. rebuild_to t i g c sent rest output)
+          → Takes n before (record { outcome = Ok size; context = c }) after (λ t i. rebuild_to t i g c sent rest output)
       rebuild_to-accepted after r w =
           made-accepted n before c packet output total wrong (omega arith) undisproved size after (rw (← f) r) f w
 
@@ -152,6 +152,11 @@ abbrev pub not_live : Status → Bool
 not_live Empty = true
 not_live Live = false
 not_live Broken = true
+
+-- one of the two that are not live
+pub not_live-either : (u : Status) → (u ≡ Empty) ⊎ (u ≡ Broken) → not_live u ≡ true
+not_live-either u (inl e) = ap not_live e
+not_live-either u (inr e) = ap not_live e
 
 ---- Arrives: the repeats and the context are those of the table
 

@@ -28,19 +28,18 @@ use links_read::cr::read_cr;
 use links_read::cu::{read_cu, split_flags};
 use links_read::head::{read_context, read_head};
 use links_read::whole::read_cu_whole;
-use packet::refusal::{Refusal, is_accepted};
+use packet::refusal::Refusal;
 
 // The fields of a CR, or of a CU with F.
 fn read_parts(kind: u32, c: DecompressorContext, h: Head, s: &[u8]) -> ReadParts
     ensures { result ≡ cond (eqb kind 2) (cu_of s.now h.place h.flags (checksum_read c))
         (cr_of s.now h.place h.flags (checksum_read c)) }
 {
-    let flags = h.flags;
     let carried = reads_checksum(c);
     if kind == 2 {
-        return read_cu(s, h.place, flags, carried);
+        return read_cu(s, h.place, h.flags, carried);
     }
-    read_cr(s, h.place, flags, carried)
+    read_cr(s, h.place, h.flags, carried)
 }
 
 // What a context makes of the parts of a CR, or of a CU with F, that has the link sequence q.
@@ -49,13 +48,10 @@ fn apply_parts(n: u8, q: u8, c: DecompressorContext, x: ReadParts) -> Arrived
     ensures { (s : List ℕ) → x.place.cursor.at ≤ length s
         → Arrives n c result s (λ t i output. receive_parts x t i q s output) }
 {
-    let parts = x.parts;
-    let place = x.place;
-    let applied = apply(n, q, c, parts);
     Arrived {
-        place: place,
-        applied: applied,
-        checksum: parts.checksum,
+        place: x.place,
+        applied: apply(n, q, c, x.parts),
+        checksum: x.parts.checksum,
     }
 }
 
@@ -64,17 +60,11 @@ fn apply_old(n: u8, c: DecompressorContext, h: Head, s: &[u8]) -> Arrived
     requires { HeadRead n c h s.now × (c.status ≡ Live) }
     ensures { Arrives n c result s.now (λ t i output. receive_old oldform.Taken t i h s.now output) }
 {
-    let flags = h.flags;
-    let carried = reads_checksum(c);
-    let read = read_cu_whole(s, h.place, flags, carried);
-    let parts = read.parts;
-    let header = read.header;
-    let place = read.place;
-    let applied = apply_whole(n, flags.low, c, parts, header);
+    let read = read_cu_whole(s, h.place, h.flags, reads_checksum(c));
     Arrived {
-        place: place,
-        applied: applied,
-        checksum: parts.checksum,
+        place: read.place,
+        applied: apply_whole(n, h.flags.low, c, read.parts, read.header),
+        checksum: read.parts.checksum,
     }
 }
 
@@ -84,15 +74,14 @@ fn arrive(old: OldForm, kind: u32, n: u8, c: DecompressorContext, h: Head, s: &[
     ensures { Arrives n c result s.now
         (λ t i output. receive_on old c.status kind t i h s.now output) }
 {
-    let bits = h.flags;
-    let flags = split_flags(bits);
+    let flags = split_flags(h.flags);
     if (kind == 2) & !flags.values {
         return match old {
             OldForm::Taken => apply_old(n, c, h, s),
         };
     }
     let read = read_parts(kind, c, h, s);
-    apply_parts(n, bits.low, c, read)
+    apply_parts(n, h.flags.low, c, read)
 }
 
 // A context that is not live takes neither a CU nor a CR, and is left broken.
@@ -100,7 +89,7 @@ fn refuse_not_live(c: DecompressorContext) -> Taken
     ensures { (n : ℕ) (output : List ℕ) → Takes n c result output (left_broken c output) }
 {
     Taken {
-        outcome: Outcome::Refused(Refusal::NotLive),
+        outcome: Err(Refusal::NotLive),
         context: break_context(c),
     }
 }
@@ -119,16 +108,12 @@ fn receive_on(
     ensures { Takes n c result out.new
         (λ t i. receive_on old c.status kind t i h s.now out.old) }
 {
-    let status = c.status;
-    match status {
-        Status::Empty => refuse_not_live(c),
+    match c.status {
+        Status::Empty | Status::Broken => refuse_not_live(c),
         Status::Live => {
             let arrived = arrive(old, kind, n, c, h, s);
-            let place = arrived.place;
-            let applied = arrived.applied;
-            settle_read(c, place, applied, arrived.checksum, s, out)
+            settle_read(c, arrived.place, arrived.applied, arrived.checksum, s, out)
         }
-        Status::Broken => refuse_not_live(c),
     }
 }
 
@@ -152,10 +137,8 @@ fn receive_found(
         out.old) }
 {
     let taken = receive_on(old, kind, b[Layout::REPEATS], c, head, s, out);
-    let outcome = taken.outcome;
-    let after = taken.context;
-    put_context(w, h, b, i, after);
-    outcome
+    put_context(w, h, b, i, taken.context);
+    taken.outcome
 }
 
 // A CU or CR: its context is read out once. What most arrivals are has a short way, so that it does not pay for the rest.
@@ -176,22 +159,18 @@ pub fn receive_compressed(
         out.old) }
 {
     let first = read_context(s);
-    let field = first.field;
-    let number = field.value;
+    let number = first.field.unwrap_or(0);
     if b[Layout::CONTEXTS] <= number {
-        return Outcome::Refused(Refusal::NoSuchContext);
+        return Err(Refusal::NoSuchContext);
     }
     let head = read_head(s, first.place);
-    let place = head.place;
-    let found = place.verdict;
-    if !is_accepted(found) {
-        return Outcome::Refused(Refusal::Cut);
+    if head.place.verdict.is_err() {
+        return Err(Refusal::Cut);
     }
-    let i = number as usize;
+    let i = usize::from(number);
     let context = context_at(w, h, b, i);
-    let steady = read_steady(kind, context, head, s, out.len());
-    if steady.goes {
-        return receive_steady(w, h, b, i, context, head, steady, s, out);
+    match read_steady(kind, context, head, s, out.len()) {
+        Some(read) => receive_steady(w, h, b, i, context, head, read, s, out),
+        None => receive_found(old, kind, w, h, b, i, context, head, s, out),
     }
-    receive_found(old, kind, w, h, b, i, context, head, s, out)
 }

@@ -13,7 +13,7 @@ use decompress::full::fill;
 use decompressor::answer::Outcome;
 use decompressor_table::layout::Layout;
 use decompressor_table::write::put_context;
-use packet::refusal::{Refusal, Verdict};
+use packet::refusal::Refusal;
 use refresh::fh::{judge_fh, read_fh};
 
 // A full header that was judged good. The packet is as long as it, since only what stands in two fields differs.
@@ -26,20 +26,16 @@ fn accept_full(w: &mut [u32], h: &mut [u16], b: &mut [u8], s: &[u8], out: &mut [
 {
     let size = s.len();
     if out.len() < size {
-        return Outcome::Refused(Refusal::NoRoom);
+        return Err(Refusal::NoRoom);
     }
     let full = read_fh(s);
-    let header = full.header;
-    let start = full.start;
-    put_packet(out, header, &s[start..], size);
+    put_packet(out, full.header, &s[full.start..], size);
     let link = Link {
         sequence: full.link,
         generation: full.generation,
     };
-    let context = fill(header, link);
-    let i = full.context as usize;
-    put_context(w, h, b, i, context);
-    Outcome::Accepted(size)
+    put_context(w, h, b, full.context as usize, fill(full.header, link));
+    Ok(size)
 }
 
 pub fn receive_full(w: &mut [u32], h: &mut [u16], b: &mut [u8], s: &[u8], out: &mut [u8]) -> Outcome
@@ -48,8 +44,6 @@ pub fn receive_full(w: &mut [u32], h: &mut [u16], b: &mut [u8], s: &[u8], out: &
         (lent w.new h.new b.new) result out.new
         (receive_full (table_of (lent w.old h.old b.old)) s.now out.old) }
 {
-    match judge_fh(b[Layout::CONTEXTS], s) {
-        Verdict::Accepted => accept_full(w, h, b, s, out),
-        Verdict::Refused(why) => Outcome::Refused(why),
-    }
+    judge_fh(b[Layout::CONTEXTS], s)?;
+    accept_full(w, h, b, s, out)
 }

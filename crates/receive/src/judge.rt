@@ -15,9 +15,8 @@ pub fn is_disproved(c: DecompressorContext, g: u8, h: Header, rest: &[u8], size:
     requires { Narrow h × (size ≡ header_size h + length rest.now) × (size ≤ 1500) }
     ensures { result ≡ is_disproved c g (packet_of h rest.now) }
 {
-    let came = h.checksum;
     if reads_checksum(c) & (1 < g) {
-        return came != udp_checksum(h, size as u16, rest);
+        return h.checksum != udp_checksum(h, size as u16, rest);
     }
     false
 }

@@ -38,10 +38,10 @@ fn receive_plain(s: &[u8], out: &mut [u8]) -> Outcome
 {
     let size = s.len();
     if out.len() < size {
-        return Outcome::Refused(Refusal::NoRoom);
+        return Err(Refusal::NoRoom);
     }
     put_all(out, 0, s);
-    Outcome::Accepted(size)
+    Ok(size)
 }
 
 fn receive_kind(
@@ -83,14 +83,14 @@ pub fn receive(
         (receive_of (table_of (lent w.old h.old b.old)) kind s.now out.old) }
 {
     if !sound(w, h, b) {
-        return Outcome::Refused(Refusal::Unsound);
+        return Err(Refusal::Unsound);
     }
     if 3 < kind {
-        return Outcome::Refused(Refusal::UnknownType);
+        return Err(Refusal::UnknownType);
     }
     let size = s.len();
     if !((1 <= size) & (size <= Settings::LONGEST)) {
-        return Outcome::Refused(Refusal::BadLength);
+        return Err(Refusal::BadLength);
     }
     receive_kind(OldForm::Taken, kind, w, h, b, s, out)
 }

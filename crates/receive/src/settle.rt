@@ -11,7 +11,7 @@ use decompress::apply::break_context;
 use decompress::header::rebuild;
 use decompressor::answer::Outcome;
 use fields::place::Place;
-use packet::refusal::{Refusal, Verdict};
+use packet::refusal::Refusal;
 use settings::Settings;
 
 // What became of a link packet on its context, and the context that it leaves: as it was, moved on, or broken.
@@ -48,26 +48,26 @@ pub fn rebuild_to(
     let size = packet_size(header, rest);
     if Settings::LONGEST < size {
         return Taken {
-            outcome: Outcome::Refused(Refusal::TooLong),
+            outcome: Err(Refusal::TooLong),
             context: before,
         };
     }
     if is_disproved(c, g, header, rest, size) {
         let broken = break_context(before);
         return Taken {
-            outcome: Outcome::Refused(Refusal::Disproved),
+            outcome: Err(Refusal::Disproved),
             context: broken,
         };
     }
     if out.len() < size {
         return Taken {
-            outcome: Outcome::Refused(Refusal::NoRoom),
+            outcome: Err(Refusal::NoRoom),
             context: before,
         };
     }
     put_packet(out, header, rest, size);
     Taken {
-        outcome: Outcome::Accepted(size),
+        outcome: Ok(size),
         context: c,
     }
 }
@@ -84,13 +84,11 @@ pub fn settle(
     ensures { (n : ℕ) → Takes n before result out.new
         (λ t i. settle (effect_of a) t i sent rest.now out.old) }
 {
-    let found = a.verdict;
-    let context = a.context;
-    match found {
-        Verdict::Accepted => { rebuild_to(before, a.gap, context, sent, rest, out) }
-        Verdict::Refused(why) => Taken {
-            outcome: Outcome::Refused(why),
-            context: context,
+    match a.verdict {
+        Ok(()) => { rebuild_to(before, a.gap, a.context, sent, rest, out) }
+        Err(why) => Taken {
+            outcome: Err(why),
+            context: a.context,
         },
     }
 }
@@ -109,14 +107,10 @@ pub fn settle_read(
     ensures { (n : ℕ) → Takes n before result out.new
         (λ t i. settle_read p (effect_of a) t i sent s.now out.old) }
 {
-    let found = p.verdict;
-    match found {
-        Verdict::Accepted => {
-            let start = p.cursor.at;
-            settle(before, a, sent, &s[start..], out)
-        }
-        Verdict::Refused(why) => Taken {
-            outcome: Outcome::Refused(why),
+    match p.verdict {
+        Ok(()) => { settle(before, a, sent, &s[p.cursor.at..], out) }
+        Err(why) => Taken {
+            outcome: Err(why),
             context: before,
         },
     }

@@ -1,4 +1,4 @@
-ghost use Rattle.std.specs.Prelude.{◌≡◌, true, false, ◌≤◌, ◌<◌, ◌+◌, eqb, length, drop};
+ghost use Rattle.std.specs.Prelude.{◌≡◌, false, IfSome, ◌≤◌, ◌<◌, ◌+◌, eqb, length, drop};
 ghost use Rattle.packet.specs.Ranges.{Narrow};
 ghost use Rattle.context.specs.Decompressor.{rebuilt};
 ghost use Rattle.decompressor_steady.specs.Steady.{moved_to, one_step_on};
@@ -14,16 +14,14 @@ use decompress::header::{reads_checksum, rebuild};
 use decompressor::answer::Outcome;
 use decompressor_steady::step::{is_next, step_on};
 use decompressor_steady::store::put_moved;
-use fields::next::next_word;
+use fields::next::next;
 use links::head::Head;
 use octets::flags::Flags;
-use packet::refusal::is_accepted;
 use settings::Settings;
 
-// Whether an arrival goes the short way, and what was read for it: the UDP checksum that came, and where the rest begins.
+// What was read for the short way: the UDP checksum that came, and where the rest begins.
 #[derive(Clone, Copy)]
 pub struct SteadyRead {
-    pub goes: bool,
     pub sent: u16,
     pub start: usize,
 }
@@ -31,34 +29,31 @@ pub struct SteadyRead {
 fn is_steady(f: Flags, c: DecompressorContext) -> bool
     ensures { result ≡ is_steady f c }
 {
-    let next = is_next(f.low, c);
-    !f.bit6 & !f.bit5 & !f.bit4 & next
+    !f.bit6 & !f.bit5 & !f.bit4 & is_next(f.low, c)
 }
 
-// All that can send an arrival the general way is found here, before anything is written: so the short way has no refusal.
-pub fn read_steady(kind: u32, c: DecompressorContext, h: Head, s: &[u8], room: usize) -> SteadyRead
+// All that can send an arrival the general way, None, is found here, before anything is written: so the short way has no refusal.
+pub fn read_steady(
+    kind: u32,
+    c: DecompressorContext,
+    h: Head,
+    s: &[u8],
+    room: usize,
+) -> Option<SteadyRead>
     requires { (h.place.cursor.at ≤ length s.now) × (length s.now ≤ 1500) }
-    ensures { result.goes ≡ true → (eqb kind 2 ≡ false) × Steadily c h s.now room result }
+    ensures { IfSome result (λ read. (eqb kind 2 ≡ false) × Steadily c h s.now room read) }
 {
-    let flags = h.flags;
-    if (kind == 2) | !is_steady(flags, c) {
-        return SteadyRead {
-            goes: false,
-            sent: 0,
-            start: 0,
-        };
+    if (kind == 2) | !is_steady(h.flags, c) {
+        return None;
     }
-    let word = next_word(s, h.place, reads_checksum(c));
-    let place = word.place;
-    let found = place.verdict;
-    let field = word.field;
-    let start = place.cursor.at;
+    let word = next::<u16>(s, h.place, reads_checksum(c));
+    let start = word.place.cursor.at;
     let size = 40 + (s.len() - start);
-    SteadyRead {
-        goes: is_accepted(found) & (size <= Settings::LONGEST) & (size <= room),
-        sent: field.value,
+    let goes = word.place.verdict.is_ok() & (size <= Settings::LONGEST) & (size <= room);
+    goes.then_some(SteadyRead {
+        sent: word.field.unwrap_or(0),
         start: start,
-    }
+    })
 }
 
 // The packet of a context without a CSRC list, and the context itself, which is stored as far as it moved.
@@ -84,7 +79,7 @@ fn deliver(
     let size = 40 + rest.len();
     put_moved(w, h, b, i, c);
     put_bare_packet(out, header, rest, size);
-    Outcome::Accepted(size)
+    Ok(size)
 }
 
 // A CR without fields, one step on: no rule can refuse it, and nothing but its own step moves.
@@ -106,8 +101,6 @@ pub fn receive_steady(
         (one_step_on head.flags.low head.flags.bit7 c) read.sent (drop read.start s.now)
         out.old) }
 {
-    let flags = head.flags;
-    let after = step_on(flags.low, flags.bit7, c);
-    let start = read.start;
-    deliver(w, h, b, i, after, read.sent, &s[start..], out)
+    let after = step_on(head.flags.low, head.flags.bit7, c);
+    deliver(w, h, b, i, after, read.sent, &s[read.start..], out)
 }

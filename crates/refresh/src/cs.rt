@@ -7,8 +7,8 @@ ghost use Rattle.links.specs.Cs.{record_count, record_context, record_asks, reco
 
 use links::cs::RecordFlags;
 use octets::flags::{Flags, pack, split};
-use octets::put::put8;
-use packet::refusal::{Refusal, Verdict};
+use octets::put::put;
+use packet::refusal::Refusal;
 
 fn index(byte: u8) -> usize
     ensures { (result ≡ byte) × (result < 256) }
@@ -53,52 +53,50 @@ pub fn record_count(s: &[u8]) -> usize
 }
 
 // One record: its context number first, then the bits that 6.6 has as 0. A top bit of 0 is not refused.
-fn judge_record(contexts: u8, s: &[u8], i: usize) -> Verdict
+fn judge_record(contexts: u8, s: &[u8], i: usize) -> Result<(), Refusal>
     requires { 2 + 3 * i + 3 ≤ length s.now }
     ensures { verdict_number result ≡ record_judged contexts s.now i }
 {
     let at = 2 + 3 * i;
     if contexts <= s[at] {
-        return Verdict::Refused(Refusal::NoSuchContext);
+        return Err(Refusal::NoSuchContext);
     }
     let flags = split_record(s[at + 1]);
     if flags.zero1 | flags.zero2 | flags.zero3 | (s[at + 2] >> 6 != 0) {
-        return Verdict::Refused(Refusal::Forbidden);
+        return Err(Refusal::Forbidden);
     }
-    Verdict::Accepted
+    Ok(())
 }
 
 // n records from the first on.
-fn judge_records(contexts: u8, s: &[u8], n: usize) -> Verdict
+fn judge_records(contexts: u8, s: &[u8], n: usize) -> Result<(), Refusal>
     requires { 2 + 3 * n ≤ length s.now }
     ensures { verdict_number result ≡ records_judged contexts s.now 0 n }
 {
-    let mut i = 0;
-    while i < n {
+    for i in 0..n {
         match judge_record(contexts, s, i) {
-            Verdict::Accepted => {}
-            Verdict::Refused(why) => {
-                return Verdict::Refused(why);
+            Ok(()) => {}
+            Err(why) => {
+                return Err(why);
             }
         }
-        i += 1;
     }
-    Verdict::Accepted
+    Ok(())
 }
 
 // A request of any bytes, judged whole.
-pub fn judge_request(contexts: u8, s: &[u8]) -> Verdict
+pub fn judge_request(contexts: u8, s: &[u8]) -> Result<(), Refusal>
     ensures { verdict_number result ≡ request_judged contexts s.now }
 {
     if s.len() < 2 {
-        return Verdict::Refused(Refusal::Cut);
+        return Err(Refusal::Cut);
     }
     let count = record_count(s);
     if (s[0] != 1) | (count == 0) {
-        return Verdict::Refused(Refusal::Forbidden);
+        return Err(Refusal::Forbidden);
     }
     if s.len() != 2 + 3 * count {
-        return Verdict::Refused(Refusal::Cut);
+        return Err(Refusal::Cut);
     }
     judge_records(contexts, s, count)
 }
@@ -124,8 +122,8 @@ pub fn put_count(out: &mut [u8], at: usize, count: u8) -> usize
     requires { at + 2 ≤ length out.old }
     ensures { (result ≡ at + 2) × Wrote out.old out.new at result (1 ∷ count ∷ []) }
 {
-    let at = put8(out, at, 1);
-    put8(out, at, count)
+    let at = put(out, at, 1u8);
+    put(out, at, count)
 }
 
 // The record of one context.
@@ -140,7 +138,7 @@ pub fn put_record(out: &mut [u8], at: usize, context: u8, link: u8, generation: 
         zero3: false,
         link: link,
     });
-    let at = put8(out, at, context);
-    let at = put8(out, at, flags);
-    put8(out, at, generation)
+    let at = put(out, at, context);
+    let at = put(out, at, flags);
+    put(out, at, generation)
 }

@@ -12,7 +12,7 @@ use headers_write::checksum::ip_checksum;
 use headers_write::write::put_header;
 use links::fh::FullHeader;
 use packet::header::Header;
-use packet::refusal::{Refusal, Verdict};
+use packet::refusal::Refusal;
 
 // The leading bits of the two length fields.
 fn fields_form(s: &[u8]) -> bool
@@ -23,25 +23,25 @@ fn fields_form(s: &[u8]) -> bool
 }
 
 // A full header of any bytes, judged whole. The total length is its own, since only two fields differ from its packet.
-pub fn judge_fh(contexts: u8, s: &[u8]) -> Verdict
+pub fn judge_fh(contexts: u8, s: &[u8]) -> Result<(), Refusal>
     requires { length s.now < 65536 }
     ensures { verdict_number result ≡ fh_judged contexts s.now }
 {
     let size = s.len();
     if size < 40 {
-        return Verdict::Refused(Refusal::Cut);
+        return Err(Refusal::Cut);
     }
     if contexts <= s[3] {
-        return Verdict::Refused(Refusal::NoSuchContext);
+        return Err(Refusal::NoSuchContext);
     }
     let right = word_at(s, 10) == ip_checksum_of(s, size as u16);
     if !(fixed_form(s) & fields_form(s) & right) {
-        return Verdict::Refused(Refusal::Forbidden);
+        return Err(Refusal::Forbidden);
     }
     if size < size_with(count_at(s, 28)) {
-        return Verdict::Refused(Refusal::Cut);
+        return Err(Refusal::Cut);
     }
-    Verdict::Accepted
+    Ok(())
 }
 
 // What a full header says that was judged good.

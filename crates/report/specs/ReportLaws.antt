@@ -21,7 +21,7 @@ use Rattle.context.specs.declared.decompressor.DecompressorContext.{Decompressor
 use Rattle.octets.specs.Put.{Wrote}
 use Rattle.octets.specs.PutLaws.{wrote-front}
 use Rattle.packet.specs.declared.refusal.Refusal.TheVariants.{NoRoom}
-use Rattle.decompressor.specs.declared.answer.Outcome.TheVariants.{Accepted, Refused}
+use Rattle.std.specs.Prelude.{Ok, Err}
 use Rattle.decompressor.specs.declared.table.Table.{Table}
 use Rattle.decompressor.specs.Answer.{said, accepted, refused, delivered}
 use Rattle.decompressor.specs.Table.{empty_by, is_empty, sound_of, Sound}
@@ -146,7 +146,7 @@ module _ (t : Table) (output : List ℕ) (sound : sound_of t ≡ true) where
   report_of-sound = rw sound
 
   module _ (n : ℕ) (e : n ≡ length (states_from 0 t.contexts)) where
-    pub report-none : n ≡ 0 → said (Accepted 0) t output ≡ report_of t output
+    pub report-none : n ≡ 0 → said (Ok 0) t output ≡ report_of t output
     report-none z =
         said-accepted t t [] output 0 output (omega arith) refl refl
         ∙ ap (λ (l : List ℕ). delivered t t l output) (sym (report_on-none (states_from 0 t.contexts) (sym e ∙ z)))
@@ -160,12 +160,12 @@ module _ (t : Table) (output : List ℕ) (sound : sound_of t ≡ true) where
       size-some = rw bytes-some (omega (arith, length-cs_bytes (states_from 0 t.contexts)))
 
       pub report-no_room : length output < 2 + 3 * n
-          → said (Refused NoRoom) t output ≡ report_of t output
+          → said (Err NoRoom) t output ≡ report_of t output
       report-no_room h = said-no_room t t (report_bytes t) output (rw (← size-some) h) ∙ sym report_of-sound
 
       pub report-accepted : (out : List ℕ) (r : ℕ) → 2 + 3 * n ≤ length output
           → Wrote output out 0 r (cs_bytes (states_from 0 t.contexts))
-          → said (Accepted (2 + 3 * n)) t out ≡ report_of t output
+          → said (Ok (2 + 3 * n)) t out ≡ report_of t output
       report-accepted out r h w =
           let room : length (report_bytes t) ≤ length output = rw (← size-some) h in
           said-accepted t t (report_bytes t) output (2 + 3 * n) out room size-some (wrote-front (rw (← bytes-some) at w) room)

@@ -26,11 +26,7 @@ fn records_at(b: &[u8], i: usize) -> usize
     requires { (length b.now ≡ 834) × (i < 64) }
     ensures { (result ≡ cond (broken_at b.now i) 1 0) × (result ≤ 1) }
 {
-    let status = b[Layout::STATUS + i];
-    if 1 < status {
-        return 1;
-    }
-    0
+    usize::from(1 < b[Layout::STATUS + i])
 }
 
 fn count_records(b: &[u8]) -> usize
@@ -38,10 +34,8 @@ fn count_records(b: &[u8]) -> usize
     ensures { (result ≡ length (states_from 0 (told b.now))) × (result ≤ 64) }
 {
     let mut n = 0;
-    let mut i = 0;
-    while i < Settings::PLACES {
+    for i in 0..Settings::PLACES {
         n += records_at(b, i);
-        i += 1;
     }
     n
 }
@@ -52,8 +46,7 @@ fn put_state(out: &mut [u8], at: usize, b: &[u8], i: usize) -> usize
         × (at + length (records_bytes (states_at b.now i)) ≤ length out.old) }
     ensures { Wrote out.old out.new at result (records_bytes (states_at b.now i)) }
 {
-    let status = b[Layout::STATUS + i];
-    if status <= 1 {
+    if b[Layout::STATUS + i] <= 1 {
         return at;
     }
     put_record(
@@ -71,10 +64,8 @@ fn put_states(out: &mut [u8], at: usize, b: &[u8]) -> usize
     ensures { Wrote out.old out.new at result (records_bytes (states_from 0 (told b.now))) }
 {
     let mut o = at;
-    let mut i = 0;
-    while i < Settings::PLACES {
+    for i in 0..Settings::PLACES {
         o = put_state(out, o, b, i);
-        i += 1;
     }
     o
 }
@@ -85,17 +76,17 @@ pub fn report(w: &[u32], h: &[u16], b: &[u8], out: &mut [u8]) -> Outcome
         ≡ report_of (table_of (lent w.now h.now b.now)) out.old }
 {
     if !sound(w, h, b) {
-        return Outcome::Refused(Refusal::Unsound);
+        return Err(Refusal::Unsound);
     }
     let n = count_records(b);
     if n == 0 {
-        return Outcome::Accepted(0);
+        return Ok(0);
     }
     let size = 2 + 3 * n;
     if out.len() < size {
-        return Outcome::Refused(Refusal::NoRoom);
+        return Err(Refusal::NoRoom);
     }
     let a = put_count(out, 0, n as u8);
     put_states(out, a, b);
-    Outcome::Accepted(size)
+    Ok(size)
 }

@@ -19,7 +19,7 @@ use compressor_table::read::context_at;
 use compressor_table::write::put_context;
 use compressor_walk::sound::sound;
 use context::compressor::CompressorContext;
-use packet::refusal::{Refusal, Verdict};
+use packet::refusal::Refusal;
 use refresh::cs::{judge_request, record_asks, record_context, record_count};
 
 // One record: its context starts a full-header run where the record asks for one.
@@ -41,14 +41,12 @@ fn act_on_all(w: &mut [u32], h: &mut [u16], b: &mut [u8], s: &[u8])
 {
     let repeats = b[Layout::REPEATS];
     let count = record_count(s);
-    let mut i = 0;
-    while i < count {
+    for i in 0..count {
         let asks = record_asks(s, i);
         let place = record_context(s, i) as usize;
         let context = context_at(w, h, b, place);
         let asked = act_on(repeats, asks, context);
         put_context(w, h, b, place, asked);
-        i += 1;
     }
 }
 
@@ -59,13 +57,9 @@ pub fn request(w: &mut [u32], h: &mut [u16], b: &mut [u8], s: &[u8]) -> Outcome
         (request_of (table_of (lent w.old h.old b.old)) s.now) }
 {
     if !sound(w, h, b) {
-        return Outcome::Refused(Refusal::Unsound);
+        return Err(Refusal::Unsound);
     }
-    match judge_request(b[Layout::CONTEXTS], s) {
-        Verdict::Accepted => {
-            act_on_all(w, h, b, s);
-            Outcome::Accepted(0, 0)
-        }
-        Verdict::Refused(why) => Outcome::Refused(why),
-    }
+    judge_request(b[Layout::CONTEXTS], s)?;
+    act_on_all(w, h, b, s);
+    Ok((0, 0))
 }

@@ -9,7 +9,7 @@ use Rattle.octets.specs.Put.{Wrote}
 use Rattle.context.specs.Sound.{sound_decompressor}
 use Rattle.context.specs.declared.decompressor.DecompressorContext.{DecompressorContext}
 use Rattle.planes.specs.Planes.{Lent}
-use Rattle.decompressor.specs.declared.answer.Outcome.TheVariants.{Accepted, Refused}
+use Rattle.std.specs.Prelude.{Ok, Err}
 use Rattle.decompressor.specs.Answer.{said}
 use Rattle.decompressor.specs.Table.{no_context, context_at, sound_of}
 use Rattle.decompressor.proofs.TableLaws.{sound_of-true, sound-most, sound-context_at}
@@ -65,12 +65,12 @@ module _ (l : Lent) (s : sound_of (table_of l) ≡ true) where
     same_size : n ≡ length (records (table_of l).settings)
     same_size = e ∙ ap (λ (x : Settings). length (records x)) (sym settings-lent)
 
-    pub lent-no_room : length output < 2 + (3 + n) → said (Refused NoRoom) (table_of l) output ≡ save_of (table_of l) output
+    pub lent-no_room : length output < 2 + (3 + n) → said (Err NoRoom) (table_of l) output ≡ save_of (table_of l) output
     lent-no_room h = save-no_room (table_of l) output s n same_size h
 
     pub lent-accepted : (out : List ℕ) (r : ℕ) → 2 + (3 + n) ≤ length output
         → Wrote output out 0 r (big_endian 2 (3 + n) ++ (front_bytes (settings_in l) ++ records (settings_in l)))
-        → said (Accepted (2 + (3 + n))) (table_of l) out ≡ save_of (table_of l) output
+        → said (Ok (2 + (3 + n))) (table_of l) out ≡ save_of (table_of l) output
     lent-accepted out r h w = save-accepted (table_of l) output s n same_size out r h
         (subst (λ (x : Settings). Wrote output out 0 r (big_endian 2 (3 + n) ++ (front_bytes x ++ records x))) (sym settings-lent)
         w)

@@ -5,6 +5,7 @@ use Rattle.std.specs.Prelude.{ℕ, ◌+◌, ◌≤◌, ◌<◌, ◌≡◌, Bool,
 use Rattle.std.proofs.Common.{sym, ◌∙◌}
 use Rattle.std.proofs.Math.Path.{ap}
 use native.Mathlib.Omega.{arith}
+use Rattle.std.proofs.Common.{◌⊎◌, inl, inr}
 use Rattle.std.proofs.Math.ListN.{length}
 use Rattle.codes.specs.Bytes.{big_endian}
 use Rattle.packet.specs.declared.refusal.Refusal.TheVariants.{NoRoom}
@@ -15,7 +16,7 @@ use Rattle.context.specs.Decompressor.{rebuilt}
 use Rattle.context.specs.declared.decompressor.Status.{Status}
 use Rattle.context.specs.declared.decompressor.Status.TheVariants.{Empty, Live, Broken}
 use Rattle.context.specs.declared.decompressor.DecompressorContext.{DecompressorContext}
-use Rattle.decompressor.specs.declared.answer.Outcome.TheVariants.{Accepted, Refused}
+use Rattle.std.specs.Prelude.{Ok, Err}
 use Rattle.decompressor.specs.declared.table.Table.{Table}
 use Rattle.decompressor.specs.Answer.{said, delivered}
 use Rattle.decompressor.proofs.PacketLaws.{said-no_room, said-accepted}
@@ -66,6 +67,11 @@ module _ (c : DecompressorContext) where
   unfolding record_bytes
   record_bytes-broken e = ap (λ (s : Status). record_by s c) e
 
+  -- live or broken, its record is as long
+  pub length-record_bytes : (c.status ≡ Live) ⊎ (c.status ≡ Broken) → length (used_bytes 1 c) ≡ length (record_bytes c)
+  length-record_bytes (inl e) = sym (ap (length {A = ℕ}) (record_bytes-live e))
+  length-record_bytes (inr e) = sym (ap (length {A = ℕ}) (record_bytes-broken e))
+
 ---- save_of; n: how many bytes the records have
 
 module _ (t : Table) (output : List ℕ) (sound : sound_of t ≡ true) where
@@ -87,12 +93,12 @@ module _ (t : Table) (output : List ℕ) (sound : sound_of t ≡ true) where
         ap (λ x. big_endian 2 x ++ body_bytes t) m
 
     pub save-no_room : length output < 2 + (3 + n)
-        → said (Refused NoRoom) t output ≡ save_of t output
+        → said (Err NoRoom) t output ≡ save_of t output
     save-no_room h = said-no_room t t (saved_bytes t) output (rw (← size-saved) h) ∙ sym save_of-sound
 
     pub save-accepted : (out : List ℕ) (r : ℕ) → 2 + (3 + n) ≤ length output
         → Wrote output out 0 r (big_endian 2 (3 + n) ++ body_bytes t)
-        → said (Accepted (2 + (3 + n))) t out ≡ save_of t output
+        → said (Ok (2 + (3 + n))) t out ≡ save_of t output
     save-accepted out r h w =
         let room : length (saved_bytes t) ≤ length output = rw (← size-saved) h in
         said-accepted t t (saved_bytes t) output (2 + (3 + n)) out room size-saved (wrote-front (rw bytes-saved at w) room)

@@ -19,7 +19,7 @@ use decompressor::answer::Outcome;
 use decompressor_table::layout::Layout;
 use decompressor_table::read::context_at;
 use decompressor_walk::sound::sound;
-use octets::put::{put8, put16};
+use octets::put::put;
 use packet::refusal::Refusal;
 use saves::layout::VERSION;
 use settings::Settings;
@@ -32,11 +32,8 @@ fn records_size(w: &[u32], h: &[u16], b: &[u8], n: usize) -> usize
         × (result ≤ 7040) }
 {
     let mut size = 0;
-    let mut i = 0;
-    while i < n {
-        let context = context_at(w, h, b, i);
-        size += record_size(context);
-        i += 1;
+    for i in 0..n {
+        size += record_size(context_at(w, h, b, i));
     }
     size
 }
@@ -46,9 +43,9 @@ fn put_front(out: &mut [u8], at: usize, s: Settings) -> usize
     requires { at + 3 ≤ length out.old }
     ensures { Wrote out.old out.new at result (front_bytes s) }
 {
-    let at = put8(out, at, VERSION);
-    let at = put8(out, at, s.repeats);
-    put8(out, at, s.contexts)
+    let at = put(out, at, VERSION);
+    let at = put(out, at, s.repeats);
+    put(out, at, s.contexts)
 }
 
 // The records of the first n contexts.
@@ -59,11 +56,8 @@ fn put_records(w: &[u32], h: &[u16], b: &[u8], n: usize, out: &mut [u8], at: usi
         (records_bytes (take n (table_of (lent w.now h.now b.now)).contexts)) }
 {
     let mut past = at;
-    let mut i = 0;
-    while i < n {
-        let context = context_at(w, h, b, i);
-        past = put_record(out, past, context);
-        i += 1;
+    for i in 0..n {
+        past = put_record(out, past, context_at(w, h, b, i));
     }
     past
 }
@@ -74,7 +68,7 @@ pub fn save(w: &[u32], h: &[u16], b: &[u8], out: &mut [u8]) -> Outcome
         ≡ save_of (table_of (lent w.now h.now b.now)) out.old }
 {
     if !sound(w, h, b) {
-        return Outcome::Refused(Refusal::Unsound);
+        return Err(Refusal::Unsound);
     }
     let settings = Settings {
         repeats: b[Layout::REPEATS],
@@ -83,10 +77,10 @@ pub fn save(w: &[u32], h: &[u16], b: &[u8], out: &mut [u8]) -> Outcome
     let k = settings.contexts as usize;
     let body = 3 + records_size(w, h, b, k);
     if out.len() < 2 + body {
-        return Outcome::Refused(Refusal::NoRoom);
+        return Err(Refusal::NoRoom);
     }
-    let at = put16(out, 0, body as u16);
+    let at = put(out, 0, body as u16);
     let at = put_front(out, at, settings);
     put_records(w, h, b, k, out, at);
-    Outcome::Accepted(2 + body)
+    Ok(2 + body)
 }

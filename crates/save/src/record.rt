@@ -8,7 +8,7 @@ use context::decompressor::{DecompressorContext, Status};
 use decompress::header::rebuild;
 use headers_read::read::{header_size, size_with};
 use headers_write::write::put_header;
-use octets::put::{put8, put16, put32};
+use octets::put::put;
 use saves::layout::{BROKEN, EMPTY, LIVE};
 
 // How many bytes the record of a context in use has, be it live or broken.
@@ -16,9 +16,8 @@ fn used_size(c: DecompressorContext) -> usize
     requires { Narrow (kept c) }
     ensures { (result ≡ length (used_bytes 1 c)) × (result ≤ 110) }
 {
-    let csrc = c.csrc;
     if c.filled {
-        return 10 + size_with(csrc.count as usize);
+        return 10 + size_with(c.csrc.count as usize);
     }
     10
 }
@@ -27,11 +26,9 @@ pub fn record_size(c: DecompressorContext) -> usize
     requires { sound_decompressor c ≡ true }
     ensures { (result ≡ length (record_bytes c)) × (result ≤ 110) }
 {
-    let status = c.status;
-    match status {
+    match c.status {
         Status::Empty => 1,
-        Status::Live => used_size(c),
-        Status::Broken => used_size(c),
+        Status::Live | Status::Broken => used_size(c),
     }
 }
 
@@ -42,11 +39,11 @@ fn put_kept(out: &mut [u8], at: usize, c: DecompressorContext) -> usize
     ensures { Wrote out.old out.new at result (header_part c) }
 {
     if !c.filled {
-        return put8(out, at, 0);
+        return put(out, at, 0u8);
     }
     let header = rebuild(c, 0xFFFF);
     let size = header_size(header);
-    let at = put8(out, at, size as u8);
+    let at = put(out, at, size as u8);
     put_header(out, at, header, 0, 0, 0)
 }
 
@@ -54,13 +51,11 @@ fn put_used(out: &mut [u8], at: usize, state: u8, c: DecompressorContext) -> usi
     requires { Narrow (kept c) × (at + length (used_bytes state c) ≤ length out.old) }
     ensures { Wrote out.old out.new at result (used_bytes state c) }
 {
-    let link = c.link;
-    let deltas = c.deltas;
-    let at = put8(out, at, state);
-    let at = put8(out, at, link.generation);
-    let at = put8(out, at, link.sequence);
-    let at = put16(out, at, deltas.id);
-    let at = put32(out, at, deltas.timestamp);
+    let at = put(out, at, state);
+    let at = put(out, at, c.link.generation);
+    let at = put(out, at, c.link.sequence);
+    let at = put(out, at, c.deltas.id);
+    let at = put(out, at, c.deltas.timestamp);
     put_kept(out, at, c)
 }
 
@@ -68,9 +63,8 @@ pub fn put_record(out: &mut [u8], at: usize, c: DecompressorContext) -> usize
     requires { (sound_decompressor c ≡ true) × (at + length (record_bytes c) ≤ length out.old) }
     ensures { Wrote out.old out.new at result (record_bytes c) }
 {
-    let status = c.status;
-    match status {
-        Status::Empty => { put8(out, at, EMPTY) }
+    match c.status {
+        Status::Empty => { put(out, at, EMPTY) }
         Status::Live => { put_used(out, at, LIVE, c) }
         Status::Broken => { put_used(out, at, BROKEN, c) }
     }

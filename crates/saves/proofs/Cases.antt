@@ -5,7 +5,7 @@ use Rattle.codes.specs.Difference.{has_code}
 use Rattle.codes.specs.Reading.{read_byte, read_word, read_long}
 use Rattle.headers.specs.Compressible.{fixed_form}
 use Rattle.headers.specs.Header.{rtp_at, flow_of, ip_of, header_of, ip_front, ip_back, udp_bytes, rtp_fixed, header_bytes}
-use Rattle.fields.specs.Next.{next, next_byte, next_word, next_long}
+use Rattle.fields.specs.Next.{next_as, next_byte, next_word, next_long}
 use Rattle.context.specs.Decompressor.{rebuilt}
 use Rattle.context.specs.Sound.{empty_decompressor}
 use Rattle.context.specs.declared.decompressor.Status.TheVariants.{Live, Broken}
@@ -162,8 +162,8 @@ pub record Cases : Type 0 where
 
 pub cases : Cases
 unfolding has_code read_byte read_word read_long fixed_form rtp_at flow_of ip_of header_of ip_front ip_back udp_bytes rtp_fixed
-    header_bytes next
-    next_byte next_word next_long rebuilt empty_decompressor checked next_up_to kept_form header_from record_bytes fixed_of
+    header_bytes next_as next_byte next_word next_long rebuilt empty_decompressor checked next_up_to kept_form header_from
+    record_bytes fixed_of
     size_allowed
     context_of record_of whole_of front_of saved_bytes load_of
 cases = record {

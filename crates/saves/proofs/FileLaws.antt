@@ -13,8 +13,8 @@ use Rattle.codes.specs.Numbers.{cut, forbidden}
 use Rattle.codes.specs.Reading.{Reading, has, read_byte, read_word}
 use Rattle.packet.specs.Refusal.{verdict_number, is_accepted}
 use Rattle.fields.specs.declared.place.Place.{Place}
-use Rattle.fields.specs.Place.{good, stopped, passed, step, got16}
-use Rattle.fields.specs.Next.{next, next_byte, next_word}
+use Rattle.fields.specs.Place.{good, stopped, passed, there, or_zero}
+use Rattle.fields.specs.Next.{next, next_as, next_byte, next_word}
 use Rattle.fields.specs.NextLaws.{next_word-written}
 use Rattle.decompressor.specs.declared.table.Table.{Table}
 use Rattle.decompressor.specs.Answer.{Result, accepted, refused}
@@ -35,7 +35,7 @@ unfolding checked
 checked-halted p ok number e = rw e
 
 next-halted : (read : ℕ → Reading) (p : Place) (w : Bool) → Halted p → next read p w ≡ passed p
-unfolding next
+unfolding next_as
 next-halted read p w e = rw e
 
 next_byte-halted : (s : List ℕ) (p : Place) (w : Bool) → Halted p → (next_byte s p w).place ≡ p
@@ -46,7 +46,7 @@ next_up_to-halted : (s : List ℕ) (p : Place) (w : Bool) (most : ℕ) → Halte
 unfolding next_up_to
 next_up_to-halted s p w most e =
     let n = next_byte-halted s p w e in
-    checked-halted (next_byte s p w).place (leb (next_byte s p w).field.value most) forbidden (subst Halted (sym n) e) ∙ n
+    checked-halted (next_byte s p w).place (leb (or_zero (next_byte s p w).field) most) forbidden (subst Halted (sym n) e) ∙ n
 
 allowed-halted : (p q : Place) (ok : Bool) → Halted q → p ≡ q → allowed p ok ≡ q
 allowed-halted p q ok e same = ap (λ (x : Place). allowed x ok) same ∙ checked-halted q ok forbidden e
@@ -73,7 +73,7 @@ module _ (s : List ℕ) (e : Halted (whole_of s)) where
   load-halted t = rw (front-halted, e)
 
 -- rule 14.5: by what the length's two bytes say
-module _ (s : List ℕ) (n : ℕ) (length-read : next_word s (good 0) true ≡ got16 (step (good 2) true n)) where
+module _ (s : List ℕ) (n : ℕ) (length-read : next_word s (good 0) true ≡ there 2 n) where
   whole_of-less : length s < 2 + n → whole_of s ≡ stopped 2 cut
   unfolding whole_of checked
   whole_of-less h = rw (length-read, lt-leb (2 + n) (length s) h)
@@ -83,7 +83,7 @@ module _ (s : List ℕ) (n : ℕ) (length-read : next_word s (good 0) true ≡ g
   whole_of-more h = rw (length-read, le-leb (2 + n) (length s) (omega arith), lt-leb (length s) (2 + n) h)
 
 whole_of-none : (s : List ℕ) → length s < 2 → whole_of s ≡ stopped 0 cut
-unfolding whole_of checked next_word next read_word
+unfolding whole_of checked next_word next_as read_word
 whole_of-none s h = rw (lt-leb 2 (length s) h)
 
 -- a refusal there is the load's
@@ -111,8 +111,8 @@ module _ (t : Table) (f : TableFits t) where
   file-length = omega arith
 
   -- its length, whatever is left of what follows it
-  length-there : (s l : List ℕ) → s ≡ big_endian 2 body ++ l → next_word s (good 0) true ≡ got16 (step (good 2) true body)
-  length-there s l e = next_word-written s 0 true body l refl body-fits e
+  length-there : (s l : List ℕ) → s ≡ big_endian 2 body ++ l → next_word s (good 0) true ≡ there 2 body
+  length-there s l e = next_word-written s 0 true body l body-fits e
 
   cut-front : (n : ℕ) → take (suc (suc n)) file ≡ big_endian 2 body ++ take n (body_bytes t)
   unfolding saved_bytes

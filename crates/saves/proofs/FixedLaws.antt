@@ -10,10 +10,8 @@ use Rattle.codes.specs.Difference.{has_code}
 use Rattle.codes.specs.Reading.{byte_at, word_at, long_at}
 use Rattle.codes.proofs.BytesRead.{AllBytes-drop, word_at-lt, long_at-lt, big_endian-word_at, big_endian-long_at, places-drop}
 use Rattle.fields.specs.declared.place.Place.{Place}
-use Rattle.fields.specs.declared.place.Got8.{Got8}
-use Rattle.fields.specs.declared.place.Got16.{Got16}
-use Rattle.fields.specs.declared.place.Got32.{Got32}
-use Rattle.fields.specs.Place.{step, good, got8, got16, got32}
+use Rattle.fields.specs.declared.place.Got.{Got}
+use Rattle.fields.specs.Place.{good, there, or_zero}
 use Rattle.fields.specs.Next.{next_byte, next_word, next_long}
 use Rattle.fields.specs.NextLaws.{left-past, next_byte-written, next_word-written, next_long-written}
 use Rattle.context.proofs.SoundFacts.{has_code-zero}
@@ -69,16 +67,16 @@ module _ (s : List ℕ) (at : ℕ) where
         f.used,
         next_up_to-written s (at + 1) 63 g (q ∷ (D ++ (T ++ (z ∷ l)))) f.generation e1,
         next_up_to-written s (at + 1 + 1) 15 q (D ++ (T ++ (z ∷ l))) f.sequence e2,
-        next_word-written s (at + 1 + 1 + 1) true d (T ++ (z ∷ l)) refl f.did e3,
-        next_long-written s (at + 1 + 1 + 1 + 2) true t (z ∷ l) refl f.dts e4,
+        next_word-written s (at + 1 + 1 + 1) true d (T ++ (z ∷ l)) f.did e3,
+        next_long-written s (at + 1 + 1 + 1 + 2) true t (z ∷ l) f.dts e4,
         f.coded,
         checked-passed,
-        next_byte-written s (at + 1 + 1 + 1 + 2 + 4) true z l refl e5,
+        next_byte-written s (at + 1 + 1 + 1 + 2 + 4) true z l e5,
         n,
       )
 
   -- past a state of 0 there is no field
-  fixed_of-zero : (x : ℕ) → x ≡ 0 → next_up_to s (good at) true 2 ≡ got8 (step (good (at + 1)) true x)
+  fixed_of-zero : (x : ℕ) → x ≡ 0 → next_up_to s (good at) true 2 ≡ there (at + 1) x
       → fixed_of s (good at) ≡ fixed (at + 1) 0 0 0 0 0 0
   unfolding fixed_of
   fixed_of-zero x z e =
@@ -120,28 +118,28 @@ fixed_of-goes s p x =
     next_byte-goes s _ _ x)).0))).0).0).0
 
 module _ (s : List ℕ) (at : ℕ) (x : Goes (fixed_of s (good at)).place) where
-  abbrev state : Got8
+  abbrev state : Got ℕ
   state = next_up_to s (good at) true 2
 
   abbrev is_used : Bool
-  is_used = not (eqb state.field.value 0)
+  is_used = not (eqb (or_zero state.field) 0)
 
-  abbrev generation : Got8
+  abbrev generation : Got ℕ
   generation = next_up_to s state.place is_used 63
 
-  abbrev sequence : Got8
+  abbrev sequence : Got ℕ
   sequence = next_up_to s generation.place is_used 15
 
-  abbrev did : Got16
+  abbrev did : Got ℕ
   did = next_word s sequence.place is_used
 
-  abbrev dts : Got32
+  abbrev dts : Got ℕ
   dts = next_long s did.place is_used
 
-  goes-coded : Goes dts.place × (has_code 32 dts.field.value ≡ true)
+  goes-coded : Goes dts.place × (has_code 32 (or_zero dts.field) ≡ true)
   unfolding fixed_of
-  goes-coded = allowed-goes dts.place (has_code 32 dts.field.value)
-      (next_byte-goes s (allowed dts.place (has_code 32 dts.field.value)) is_used x)
+  goes-coded = allowed-goes dts.place (has_code 32 (or_zero dts.field))
+      (next_byte-goes s (allowed dts.place (has_code 32 (or_zero dts.field))) is_used x)
 
   goes-did : Goes did.place
   goes-did = next_long-goes s did.place is_used goes-coded.0
@@ -155,7 +153,7 @@ module _ (s : List ℕ) (at : ℕ) (x : Goes (fixed_of s (good at)).place) where
   goes-state : Goes state.place
   goes-state = (next_up_to-goes s state.place is_used 63 goes-generation).0
 
-  state-took : (at + 1 ≤ length s) × (byte_at s at ≤ 2) × (state ≡ got8 (step (good (at + 1)) true (byte_at s at)))
+  state-took : (at + 1 ≤ length s) × (byte_at s at ≤ 2) × (state ≡ there (at + 1) (byte_at s at))
   state-took = next_up_to-took s at 2 goes-state
 
   module _ (u : eqb (byte_at s at) 0 ≡ false) where
@@ -167,21 +165,21 @@ module _ (s : List ℕ) (at : ℕ) (x : Goes (fixed_of s (good at)).place) where
     generation-step = λ i. next_up_to s (state-took.2 i).place (is-used i) 63
 
     generation-took : (at + 1 + 1 ≤ length s) × (byte_at s (at + 1) ≤ 63)
-        × (next_up_to s (good (at + 1)) true 63 ≡ got8 (step (good (at + 1 + 1)) true (byte_at s (at + 1))))
+        × (next_up_to s (good (at + 1)) true 63 ≡ there (at + 1 + 1) (byte_at s (at + 1)))
     generation-took = next_up_to-took s (at + 1) 63 (rw generation-step at goes-generation)
 
     sequence-step : sequence ≡ next_up_to s (good (at + 1 + 1)) true 15
     sequence-step = λ i. next_up_to s ((generation-step ∙ generation-took.2) i).place (is-used i) 15
 
     sequence-took : (at + 1 + 1 + 1 ≤ length s) × (byte_at s (at + 1 + 1) ≤ 15)
-        × (next_up_to s (good (at + 1 + 1)) true 15 ≡ got8 (step (good (at + 1 + 1 + 1)) true (byte_at s (at + 1 + 1))))
+        × (next_up_to s (good (at + 1 + 1)) true 15 ≡ there (at + 1 + 1 + 1) (byte_at s (at + 1 + 1)))
     sequence-took = next_up_to-took s (at + 1 + 1) 15 (rw sequence-step at goes-sequence)
 
     did-step : did ≡ next_word s (good (at + 1 + 1 + 1)) true
     did-step = λ i. next_word s ((sequence-step ∙ sequence-took.2) i).place (is-used i)
 
     did-took : (at + 1 + 1 + 1 + 2 ≤ length s)
-        × (next_word s (good (at + 1 + 1 + 1)) true ≡ got16 (step (good (at + 1 + 1 + 1 + 2)) true (word_at s (at + 1 + 1 + 1))))
+        × (next_word s (good (at + 1 + 1 + 1)) true ≡ there (at + 1 + 1 + 1 + 2) (word_at s (at + 1 + 1 + 1)))
     did-took = next_word-took s (at + 1 + 1 + 1) (rw did-step at goes-did)
 
     dts-step : dts ≡ next_long s (good (at + 1 + 1 + 1 + 2)) true
@@ -189,14 +187,14 @@ module _ (s : List ℕ) (at : ℕ) (x : Goes (fixed_of s (good at)).place) where
 
     dts-took : (at + 1 + 1 + 1 + 2 + 4 ≤ length s)
         × (next_long s (good (at + 1 + 1 + 1 + 2)) true
-        ≡ got32 (step (good (at + 1 + 1 + 1 + 2 + 4)) true (long_at s (at + 1 + 1 + 1 + 2))))
+        ≡ there (at + 1 + 1 + 1 + 2 + 4) (long_at s (at + 1 + 1 + 1 + 2)))
     dts-took = next_long-took s (at + 1 + 1 + 1 + 2) (rw dts-step at goes-coded.0)
 
-    dts-is : dts ≡ got32 (step (good (at + 1 + 1 + 1 + 2 + 4)) true (long_at s (at + 1 + 1 + 1 + 2)))
+    dts-is : dts ≡ there (at + 1 + 1 + 1 + 2 + 4) (long_at s (at + 1 + 1 + 1 + 2))
     dts-is = dts-step ∙ dts-took.1
 
-    abbrev size : Got8
-    size = next_byte s (allowed dts.place (has_code 32 dts.field.value)) is_used
+    abbrev size : Got ℕ
+    size = next_byte s (allowed dts.place (has_code 32 (or_zero dts.field))) is_used
 
     goes-size : Goes size.place
     unfolding fixed_of
@@ -212,7 +210,7 @@ module _ (s : List ℕ) (at : ℕ) (x : Goes (fixed_of s (good at)).place) where
 
     size-took : (at + 1 + 1 + 1 + 2 + 4 + 1 ≤ length s)
         × (next_byte s (good (at + 1 + 1 + 1 + 2 + 4)) true
-        ≡ got8 (step (good (at + 1 + 1 + 1 + 2 + 4 + 1)) true (byte_at s (at + 1 + 1 + 1 + 2 + 4))))
+        ≡ there (at + 1 + 1 + 1 + 2 + 4 + 1) (byte_at s (at + 1 + 1 + 1 + 2 + 4)))
     size-took = next_byte-took s (at + 1 + 1 + 1 + 2 + 4) (rw size_step at goes-size)
 
     -- together
@@ -223,12 +221,12 @@ module _ (s : List ℕ) (at : ℕ) (x : Goes (fixed_of s (good at)).place) where
     unfolding fixed_of
     used-same = λ i. record {
       place = ((size_step ∙ size-took.1) i).place;
-      state = (state-took.2 i).field.value;
-      generation = ((generation-step ∙ generation-took.2) i).field.value;
-      sequence = ((sequence-step ∙ sequence-took.2) i).field.value;
-      did = ((did-step ∙ did-took.1) i).field.value;
-      dts = (dts-is i).field.value;
-      size = ((size_step ∙ size-took.1) i).field.value;
+      state = or_zero (state-took.2 i).field;
+      generation = or_zero ((generation-step ∙ generation-took.2) i).field;
+      sequence = or_zero ((sequence-step ∙ sequence-took.2) i).field;
+      did = or_zero ((did-step ∙ did-took.1) i).field;
+      dts = or_zero (dts-is i).field;
+      size = or_zero ((size_step ∙ size-took.1) i).field;
     }
 
     -- the places as one number each

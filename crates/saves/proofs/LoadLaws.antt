@@ -14,12 +14,11 @@ use Rattle.codes.specs.Reading.{byte_at, word_at}
 use Rattle.codes.proofs.BytesRead.{big_endian-word_at, places-drop}
 use Rattle.packet.specs.Refusal.{verdict_number, is_accepted}
 use Rattle.packet.specs.RefusalLaws.{number_of-least}
-use Rattle.packet.specs.declared.refusal.Verdict.{Verdict}
-use Rattle.packet.specs.declared.refusal.Verdict.TheVariants.{Accepted, Refused}
+use Rattle.packet.specs.Refusal.{Verdict}
+use Rattle.std.specs.Prelude.{Ok, Err}
 use Rattle.fields.specs.declared.place.Place.{Place}
-use Rattle.fields.specs.declared.place.Got8.{Got8}
-use Rattle.fields.specs.declared.place.Got16.{Got16}
-use Rattle.fields.specs.Place.{step, good, got8, got16}
+use Rattle.fields.specs.declared.place.Got.{Got}
+use Rattle.fields.specs.Place.{good, there, or_zero}
 use Rattle.fields.specs.Next.{next_byte, next_word}
 use Rattle.context.specs.All.{all}
 use Rattle.context.specs.Ranges.{ContextInRange}
@@ -126,14 +125,14 @@ pub record FrontRead (s : List ℕ) (f : Front) : Type 0 where
 
 module _ (s : List ℕ) where
   module _ (x : Goes (whole_of s)) where
-    abbrev size : Got16
+    abbrev size : Got ℕ
     size = next_word s (good 0) true
 
     abbrev not_less : Bool
-    not_less = leb (2 + size.field.value) (length s)
+    not_less = leb (2 + (or_zero size.field)) (length s)
 
     abbrev not_more : Bool
-    not_more = leb (length s) (2 + size.field.value)
+    not_more = leb (length s) (2 + (or_zero size.field))
 
     more-goes : Goes (checked size.place not_less cut) × (not_more ≡ true)
     unfolding whole_of
@@ -142,7 +141,7 @@ module _ (s : List ℕ) where
     less-goes : Goes size.place × (not_less ≡ true)
     less-goes = checked-goes size.place not_less cut refl more-goes.0
 
-    size-took : (0 + 2 ≤ length s) × (size ≡ got16 (step (good 2) true (word_at s 0)))
+    size-took : (0 + 2 ≤ length s) × (size ≡ there 2 (word_at s 0))
     size-took = next_word-took s 0 less-goes.0
 
     whole_length : 2 + word_at s 0 ≡ length s
@@ -158,24 +157,24 @@ module _ (s : List ℕ) where
         ∙ checked-passed (checked size.place not_less cut) forbidden
         ∙ ap (λ (ok : Bool). checked size.place ok cut) less-goes.1
         ∙ checked-passed size.place cut
-        ∙ ap (λ (g : Got16). g.place) size-took.1
+        ∙ ap (λ (g : Got ℕ). g.place) size-took.1
 
   module _ (x : Goes (front_of s).place) where
-    abbrev version : Got8
+    abbrev version : Got ℕ
     version = next_byte s (whole_of s) true
 
     abbrev is_one : Bool
-    is_one = eqb version.field.value 1
+    is_one = eqb (or_zero version.field) 1
 
-    abbrev repeats : Got8
+    abbrev repeats : Got ℕ
     repeats = next_up_to s (allowed version.place is_one) true 14
 
-    abbrev contexts : Got8
+    abbrev contexts : Got ℕ
     contexts = next_up_to s repeats.place true 64
 
-    goes-contexts : Goes contexts.place × (leb 1 contexts.field.value ≡ true)
+    goes-contexts : Goes contexts.place × (leb 1 (or_zero contexts.field) ≡ true)
     unfolding front_of
-    goes-contexts = allowed-goes contexts.place (leb 1 contexts.field.value) x
+    goes-contexts = allowed-goes contexts.place (leb 1 (or_zero contexts.field)) x
 
     goes-repeats : Goes repeats.place
     goes-repeats = (next_up_to-goes s repeats.place true 64 goes-contexts.0).0
@@ -189,41 +188,41 @@ module _ (s : List ℕ) where
     version-step : version ≡ next_byte s (good 2) true
     version-step = ap (λ (p : Place). next_byte s p true) (whole_of-read goes-whole)
 
-    version-took : (2 + 1 ≤ length s) × (next_byte s (good 2) true ≡ got8 (step (good 3) true (byte_at s 2)))
+    version-took : (2 + 1 ≤ length s) × (next_byte s (good 2) true ≡ there 3 (byte_at s 2))
     version-took = next_byte-took s 2 (rw version-step at goes-version.0)
 
-    version-is : version ≡ got8 (step (good 3) true (byte_at s 2))
+    version-is : version ≡ there 3 (byte_at s 2)
     version-is = version-step ∙ version-took.1
 
     repeats-step : repeats ≡ next_up_to s (good 3) true 14
     repeats-step =
         ap (λ (ok : Bool). next_up_to s (allowed version.place ok) true 14) goes-version.1
         ∙ ap (λ (p : Place). next_up_to s p true 14) (checked-passed version.place forbidden)
-        ∙ ap (λ (g : Got8). next_up_to s g.place true 14) version-is
+        ∙ ap (λ (g : Got ℕ). next_up_to s g.place true 14) version-is
 
     repeats-took : (3 + 1 ≤ length s) × (byte_at s 3 ≤ 14) × (next_up_to s (good 3) true 14
-        ≡ got8 (step (good 4) true (byte_at s 3)))
+        ≡ there 4 (byte_at s 3))
     repeats-took = next_up_to-took s 3 14 (rw repeats-step at goes-repeats)
 
-    repeats-is : repeats ≡ got8 (step (good 4) true (byte_at s 3))
+    repeats-is : repeats ≡ there 4 (byte_at s 3)
     repeats-is = repeats-step ∙ repeats-took.2
 
     contexts-step : contexts ≡ next_up_to s (good 4) true 64
-    contexts-step = ap (λ (g : Got8). next_up_to s g.place true 64) repeats-is
+    contexts-step = ap (λ (g : Got ℕ). next_up_to s g.place true 64) repeats-is
 
     contexts-took : (4 + 1 ≤ length s) × (byte_at s 4 ≤ 64) × (next_up_to s (good 4) true 64
-        ≡ got8 (step (good 5) true (byte_at s 4)))
+        ≡ there 5 (byte_at s 4))
     contexts-took = next_up_to-took s 4 64 (rw contexts-step at goes-contexts.0)
 
-    contexts-is : contexts ≡ got8 (step (good 5) true (byte_at s 4))
+    contexts-is : contexts ≡ there 5 (byte_at s 4)
     contexts-is = contexts-step ∙ contexts-took.2
 
     front_same : front_of s ≡ record { place = good 5; settings = record { repeats = byte_at s 3; contexts = byte_at s 4 } }
     unfolding front_of
     front_same = λ i. record {
       place = (ap (allowed contexts.place) goes-contexts.1 ∙ checked-passed contexts.place forbidden
-          ∙ ap (λ (g : Got8). g.place) contexts-is) i;
-      settings = record { repeats = (repeats-is i).field.value; contexts = (contexts-is i).field.value };
+          ∙ ap (λ (g : Got ℕ). g.place) contexts-is) i;
+      settings = record { repeats = or_zero (repeats-is i).field; contexts = (or_zero (contexts-is i).field) };
     }
 
     pub front_of-read : FrontRead s (front_of s)
@@ -241,8 +240,8 @@ module _ (s : List ℕ) where
 
 -- a number of 0 is that of no refusal
 pub zero-accepted : (v : Verdict) → verdict_number v ≡ 0 → is_accepted v ≡ true
-zero-accepted Accepted e = refl
-zero-accepted (Refused r) e = absurd (omega (arith, e, number_of-least r))
+zero-accepted (Ok u) e = refl
+zero-accepted (Err r) e = absurd (omega (arith, e, number_of-least r))
 
 settled-by : (t : Table) (p : Place) (new : Table) (b : Bool) → is_accepted p.verdict ≡ b
     → let r = cond b (accepted new [] []) (refused t (verdict_number p.verdict) []) in r.number ≡ 0 → Goes p × (r.table ≡ new)

@@ -150,7 +150,7 @@ module _ (t : Table) (f : TableFits t) where
     unfolding whole_of
     whole_of-saved =
         rw (
-          next_word-written s 0 true body (body_bytes t) refl body-fits left-start,
+          next_word-written s 0 true body (body_bytes t) body-fits left-start,
           le-leb (2 + body) (length s) (omega (arith, length-s)),
           le-leb (length s) (2 + body) (omega (arith, length-s)),
           checked-passed (good 2) cut,
@@ -166,7 +166,7 @@ module _ (t : Table) (f : TableFits t) where
         let e4 = left-past s 3 (n ∷ []) (most ∷ records) e3 in
         rw (
           whole_of-saved,
-          next_byte-written s 2 true 1 (n ∷ most ∷ records) refl e2,
+          next_byte-written s 2 true 1 (n ∷ most ∷ records) e2,
           checked-passed (good 3) forbidden,
           next_up_to-written s 3 14 n (most ∷ records) (sound-repeats t f.sound) e3,
           next_up_to-written s 4 64 most records (sound-most t f.sound) e4,

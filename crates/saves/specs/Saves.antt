@@ -14,10 +14,8 @@ use Rattle.settings.specs.declared.Settings.{Settings}
 use Rattle.headers.specs.Header.{count_at, header_of, header_bytes, size_with, header_size}
 use Rattle.headers.specs.Compressible.{fixed_form}
 use Rattle.fields.specs.declared.place.Place.{Place}
-use Rattle.fields.specs.declared.place.Got8.{Got8}
-use Rattle.fields.specs.declared.place.Got16.{Got16}
-use Rattle.fields.specs.declared.place.Got32.{Got32}
-use Rattle.fields.specs.Place.{good, stopped}
+use Rattle.fields.specs.declared.place.Got.{Got}
+use Rattle.fields.specs.Place.{good, stopped, there, or_zero}
 use Rattle.fields.specs.Next.{next_byte, next_word, next_long}
 use Rattle.context.specs.Decompressor.{rebuilt}
 use Rattle.context.specs.Sound.{no_flow, no_ip, no_rtp, empty_decompressor}
@@ -42,10 +40,10 @@ abbrev pub allowed : Place → (ok : Bool) → Place
 allowed p ok = checked p ok forbidden
 
 -- rule 14.6: a byte of at most so much
-unfoldable pub next_up_to : List ℕ → Place → (wanted : Bool) → (most : ℕ) → Got8
+unfoldable pub next_up_to : List ℕ → Place → (wanted : Bool) → (most : ℕ) → Got ℕ
 next_up_to s p wanted most =
-    let g : Got8 = next_byte s p wanted in
-    record { place = allowed g.place (leb g.field.value most); field = g.field }
+    let g : Got ℕ = next_byte s p wanted in
+    record { place = allowed g.place (leb (or_zero g.field) most); field = g.field }
 
 ---- What stands before the records
 
@@ -60,18 +58,18 @@ front_bytes s = (version ∷ []) ++ ((s.repeats ∷ []) ++ (s.contexts ∷ []))
 -- rule 14.5: the length of all that follows: 4 where there is less, 5 where there is more
 unfoldable pub whole_of : List ℕ → Place
 whole_of s =
-    let size : Got16 = next_word s (good 0) true in
-    allowed (checked size.place (leb (2 + size.field.value) (length s)) cut) (leb (length s) (2 + size.field.value))
+    let size : Got ℕ = next_word s (good 0) true in
+    allowed (checked size.place (leb (2 + (or_zero size.field)) (length s)) cut) (leb (length s) (2 + (or_zero size.field)))
 
 -- rules 14.5, 14.6: version 1, N up to 14, K from 1 to 64
 unfoldable pub front_of : List ℕ → Front
 front_of s =
-    let first : Got8 = next_byte s (whole_of s) true in
-    let repeats : Got8 = next_up_to s (allowed first.place (eqb first.field.value version)) true 14 in
-    let contexts : Got8 = next_up_to s repeats.place true 64 in
+    let first : Got ℕ = next_byte s (whole_of s) true in
+    let repeats : Got ℕ = next_up_to s (allowed first.place (eqb (or_zero first.field) version)) true 14 in
+    let contexts : Got ℕ = next_up_to s repeats.place true 64 in
     record {
-      place = allowed contexts.place (leb 1 contexts.field.value);
-      settings = record { repeats = repeats.field.value; contexts = contexts.field.value };
+      place = allowed contexts.place (leb 1 (or_zero contexts.field));
+      settings = record { repeats = or_zero repeats.field; contexts = or_zero contexts.field };
     }
 
 ---- The record of a context: its fields before the header
@@ -88,21 +86,21 @@ status_of state = cond (eqb state (state_of Empty)) Empty (cond (eqb state (stat
 -- rules 14.2, 14.5, 14.6: up to the header's size; those past the state are not there where the context is empty
 unfoldable pub fixed_of : List ℕ → Place → Fixed
 fixed_of s p =
-    let state : Got8 = next_up_to s p true 2 in
-    let used = not (eqb state.field.value (state_of Empty)) in
-    let generation : Got8 = next_up_to s state.place used 63 in
-    let sequence : Got8 = next_up_to s generation.place used 15 in
-    let did : Got16 = next_word s sequence.place used in
-    let dts : Got32 = next_long s did.place used in
-    let size : Got8 = next_byte s (allowed dts.place (has_code 32 dts.field.value)) used in
+    let state : Got ℕ = next_up_to s p true 2 in
+    let used = not (eqb (or_zero state.field) (state_of Empty)) in
+    let generation : Got ℕ = next_up_to s state.place used 63 in
+    let sequence : Got ℕ = next_up_to s generation.place used 15 in
+    let did : Got ℕ = next_word s sequence.place used in
+    let dts : Got ℕ = next_long s did.place used in
+    let size : Got ℕ = next_byte s (allowed dts.place (has_code 32 (or_zero dts.field))) used in
     record {
       place = size.place;
-      state = state.field.value;
-      generation = generation.field.value;
-      sequence = sequence.field.value;
-      did = did.field.value;
-      dts = dts.field.value;
-      size = size.field.value;
+      state = or_zero state.field;
+      generation = or_zero generation.field;
+      sequence = or_zero sequence.field;
+      did = or_zero did.field;
+      dts = or_zero dts.field;
+      size = or_zero size.field;
     }
 
 -- rule 14.6: without a header only a broken context is saved, and that one holds 0 everywhere

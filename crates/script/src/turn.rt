@@ -3,7 +3,7 @@ ghost use Rattle.std.specs.Prelude.{◌≤◌, ◌<◌, IfOk, length};
 use crate::line::{State, run_compressor, run_decompressor, run_endpoint, uncut};
 use crtp::{CompressorLayout, DecompressorLayout};
 use endpoint::Totals;
-use script_text::room::{front, least};
+use script_text::room::front;
 use script_text::word::Word;
 use std::io;
 use std::io::{Read, Write};
@@ -13,14 +13,12 @@ fn line_end(buf: &[u8], at: usize, filled: usize) -> usize
     requires { (at ≤ filled) × (filled ≤ length buf.now) }
     ensures { (at ≤ result) × (result ≤ filled) }
 {
-    let mut i = at;
-    while i < filled {
+    for i in at..filled {
         if buf[i] == b'\n' {
             return i;
         }
-        i += 1;
     }
-    i
+    filled
 }
 
 // Moves what begins at start to the front. A line longer than any call keeps its first bytes only, so that there is always
@@ -29,13 +27,9 @@ fn keep(buf: &mut [u8], start: usize, end: usize) -> usize
     requires { (start ≤ end) × (end ≤ length buf.old) }
     ensures { result ≤ length buf.new }
 {
-    let n = least(end - start, 40000);
-    let mut i = 0;
-    while i < n {
-        buf[i] = buf[start + i];
-        i += 1;
-    }
-    i
+    let n = (end - start).min(40000);
+    buf.copy_within(start..start + n, 0);
+    n
 }
 
 // The last line may have no line end: it gets one.
@@ -98,7 +92,7 @@ fn next_line(rt: &HostRuntime, s: State, buf: &mut [u8], text: &[u8]) -> io::Res
 
 // Every table is one of zeros at first, which is not open: calls on it are refused 1.
 //
-// Nothing says that an input ends, and a proved loop has to: it counts its turns down from a number that no run uses up.
+// Nothing says that an input ends, and a proved loop has to: its turns have a bound that no run reaches.
 pub fn run(rt: &HostRuntime) -> io::Result<()> {
     let mut buf = [0u8; 65536];
     let mut text = [0u8; 65536];
@@ -116,9 +110,7 @@ pub fn run(rt: &HostRuntime) -> io::Result<()> {
     let mut edb = [0u8; DecompressorLayout::BYTES];
     let mut totals = [0u32; Totals::COUNT];
     let mut s = uncut(0);
-    let mut turns = u64::MAX;
-    while 0 < turns {
-        turns -= 1;
+    for _ in 0..u64::MAX {
         s = next_line(rt, s, &mut buf, &text)?;
         if s.filled == 0 {
             return Ok(());

@@ -17,12 +17,12 @@ struct Shown {
 
 fn numbers_of(o: CompressorOutcome) -> Shown {
     match o {
-        CompressorOutcome::Accepted(k, n) => Shown {
+        Ok((k, n)) => Shown {
             number: 0,
             kind: k as u64,
             length: n,
         },
-        CompressorOutcome::Refused(r) => Shown {
+        Err(r) => Shown {
             number: refusal_number(r),
             kind: 0,
             length: 0,
@@ -49,13 +49,15 @@ pub fn put_answer(
     }
 }
 
+fn number_at(w: &[u32], h: &[u16], b: &[u8], place: usize, i: usize) -> u64 {
+    field(place).map_or(0, |f| load(w, h, b, f, i))
+}
+
 // The fields of context i.
 pub fn put_context(text: &mut [u8], at: usize, w: &[u32], h: &[u16], b: &[u8], i: usize) -> usize {
-    let mut o = put_number(text, at, load(w, h, b, field(0), i));
-    let mut place = 1;
-    while place < FIELDS {
-        o = put_next(text, o, load(w, h, b, field(place), i));
-        place += 1;
+    let mut o = put_number(text, at, number_at(w, h, b, 0, i));
+    for place in 1..FIELDS {
+        o = put_next(text, o, number_at(w, h, b, place, i));
     }
     o
 }

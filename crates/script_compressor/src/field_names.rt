@@ -5,20 +5,9 @@ use script_text::word::{Word, name_index};
 // How many fields a script shows of a context, N and K among them.
 pub const FIELDS: usize = 49;
 
-// The fifteen CSRC words stand in planes that follow one another.
-fn csrc_field(place: usize) -> Field {
-    if place < 19 {
-        return Field::No;
-    }
-    if 33 < place {
-        return Field::No;
-    }
-    Field::Word(Layout::CSRC + 64 * (place - 19))
-}
-
-// The field at a place in the order of showing.
-pub fn field(place: usize) -> Field {
-    match place {
+// The field at a place in the order of showing. The fifteen CSRC words stand in planes that follow one another.
+pub fn field(place: usize) -> Option<Field> {
+    Some(match place {
         0 => Field::Setting(Layout::REPEATS),
         1 => Field::Setting(Layout::CONTEXTS),
         2 => Field::Byte(Layout::STATUS, 1),
@@ -53,17 +42,18 @@ pub fn field(place: usize) -> Field {
         46 => Field::Byte(Layout::DUE_FULL, 255),
         47 => Field::Byte(Layout::LINK_SEQUENCE, 255),
         48 => Field::Byte(Layout::LINK_GENERATION, 255),
-        _ => csrc_field(place),
-    }
+        19..=33 => Field::Word(Layout::CSRC + 64 * (place - 19)),
+        _ => return None,
+    })
 }
 
 // The field that a word of a line names.
-pub fn named_field(line: &[u8], w: Word) -> Field {
+pub fn named_field(line: &[u8], w: Word) -> Option<Field> {
     field(name_index(
         b"n k status source destination sport dport ssrc tos ttl flags padding extension blank id sequence timestamp payload cc \
           csrc0 csrc1 csrc2 csrc3 csrc4 csrc5 csrc6 csrc7 csrc8 csrc9 csrc10 csrc11 csrc12 csrc13 csrc14 \
           did dts earlier eid ets idue sdue tdue pdue cdue didue dtdue fdue link generation",
         line,
         w,
-    ))
+    )?)
 }

@@ -5,20 +5,9 @@ use script_text::word::{Word, name_index};
 // How many fields a script shows of a context, N and K among them.
 pub const FIELDS: usize = 40;
 
-// The fifteen CSRC words stand in planes that follow one another.
-fn csrc_field(place: usize) -> Field {
-    if place < 21 {
-        return Field::No;
-    }
-    if 35 < place {
-        return Field::No;
-    }
-    Field::Word(Layout::CSRC + 64 * (place - 21))
-}
-
-// The field at a place in the order of showing.
-pub fn field(place: usize) -> Field {
-    match place {
+// The field at a place in the order of showing. The fifteen CSRC words stand in planes that follow one another.
+pub fn field(place: usize) -> Option<Field> {
+    Some(match place {
         0 => Field::Setting(Layout::REPEATS),
         1 => Field::Setting(Layout::CONTEXTS),
         2 => Field::Byte(Layout::STATUS, 2),
@@ -44,12 +33,13 @@ pub fn field(place: usize) -> Field {
         37 => Field::Word(Layout::DELTA_TIMESTAMP),
         38 => Field::Byte(Layout::LINK_SEQUENCE, 255),
         39 => Field::Byte(Layout::LINK_GENERATION, 255),
-        _ => csrc_field(place),
-    }
+        21..=35 => Field::Word(Layout::CSRC + 64 * (place - 21)),
+        _ => return None,
+    })
 }
 
 // The field that a word of a line names.
-pub fn named_field(line: &[u8], w: Word) -> Field {
+pub fn named_field(line: &[u8], w: Word) -> Option<Field> {
     field(name_index(
         b"n k status filled source destination sport dport ssrc tos ttl flags padding extension carried marker \
           id sequence timestamp payload cc \
@@ -57,5 +47,5 @@ pub fn named_field(line: &[u8], w: Word) -> Field {
           did dts link generation",
         line,
         w,
-    ))
+    )?)
 }

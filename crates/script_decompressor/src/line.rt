@@ -2,7 +2,7 @@ use crate::answer::{put_answer, put_context};
 use crate::call::{Call, Line, read_line};
 use crtp::DecompressorOutcome;
 use script_shared::field::store;
-use script_text::room::{FILL, ROOM, front, least};
+use script_text::room::{FILL, ROOM, front};
 use script_text::text::{put, put_all};
 use script_text::word::Word;
 
@@ -17,11 +17,11 @@ fn run(
     match call {
         Call::Open(n, k) => crtp::open_decompressor(w, h, b, n, k),
         Call::Receive(kind, n, room) => {
-            let end = least(room, output.len());
+            let end = room.min(output.len());
             crtp::receive(w, h, b, kind, front(input, n), &mut output[0..end])
         }
         Call::Report(room) => {
-            let end = least(room, output.len());
+            let end = room.min(output.len());
             crtp::report(w, h, b, &mut output[0..end])
         }
     }
@@ -53,12 +53,12 @@ pub fn run_line(
 ) -> usize {
     let mut input = [0u8; ROOM];
     match read_line(line, word, &mut input) {
-        Line::Asks(call) => ask(w, h, b, call, &input, text, at),
-        Line::Writes(f, i, v) => {
+        Some(Line::Asks(call)) => ask(w, h, b, call, &input, text, at),
+        Some(Line::Writes(f, i, v)) => {
             store(w, h, b, f, i, v);
             put_all(text, at, b"ok")
         }
-        Line::Shows(i) => put_context(text, at, w, h, b, i),
-        Line::No => put(text, at, b'?'),
+        Some(Line::Shows(i)) => put_context(text, at, w, h, b, i),
+        None => put(text, at, b'?'),
     }
 }

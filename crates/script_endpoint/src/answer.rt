@@ -1,5 +1,5 @@
 use crate::call::Call;
-use endpoint::Outcome;
+use endpoint::{Done, Outcome};
 use script_shared::refusal::refusal_number;
 use script_text::answer::{put_next, put_output};
 use script_text::room::front;
@@ -24,12 +24,10 @@ fn gave(kind: u8, n: usize) -> Shown {
 
 fn numbers_of(o: Outcome) -> Shown {
     match o {
-        Outcome::Opened => gave(0, 0),
-        Outcome::Sent(kind, n) => gave(kind, n),
-        Outcome::Rebuilt(n) => gave(0, n),
-        Outcome::Requested => gave(0, 0),
-        Outcome::Reported(n) => gave(0, n),
-        Outcome::Refused(r) => Shown {
+        Ok(Done::Opened | Done::Requested) => gave(0, 0),
+        Ok(Done::Sent(kind, n)) => gave(kind, n),
+        Ok(Done::Rebuilt(n) | Done::Reported(n)) => gave(0, n),
+        Err(r) => Shown {
             number: refusal_number(r),
             kind: 0,
             length: 0,

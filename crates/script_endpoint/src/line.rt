@@ -2,7 +2,7 @@ use crate::answer::put_answer;
 use crate::call::{Call, Line, read_line};
 use crate::totals::{put_totals, set_total};
 use endpoint::Outcome;
-use script_text::room::{FILL, ROOM, front, least};
+use script_text::room::{FILL, ROOM, front};
 use script_text::text::{put, put_all};
 use script_text::word::Word;
 
@@ -21,11 +21,11 @@ fn run(
     match call {
         Call::Open(n, k) => endpoint::open(cw, ch, cb, dw, dh, db, totals, n, k),
         Call::Wire(n, room) => {
-            let end = least(room, output.len());
+            let end = room.min(output.len());
             endpoint::from_wire(cw, ch, cb, totals, front(input, n), &mut output[0..end])
         }
         Call::Radio(kind, n, room) => {
-            let end = least(room, output.len());
+            let end = room.min(output.len());
             endpoint::from_radio(
                 cw,
                 ch,
@@ -40,7 +40,7 @@ fn run(
             )
         }
         Call::Report(room) => {
-            let end = least(room, output.len());
+            let end = room.min(output.len());
             endpoint::report(dw, dh, db, totals, &mut output[0..end])
         }
     }
@@ -80,12 +80,12 @@ pub fn run_line(
 ) -> usize {
     let mut input = [0u8; ROOM];
     match read_line(line, word, &mut input) {
-        Line::Asks(call) => ask(cw, ch, cb, dw, dh, db, totals, call, &input, text, at),
-        Line::Writes(i, v) => {
+        Some(Line::Asks(call)) => ask(cw, ch, cb, dw, dh, db, totals, call, &input, text, at),
+        Some(Line::Writes(i, v)) => {
             set_total(totals, i, v);
             put_all(text, at, b"ok")
         }
-        Line::Shows => put_totals(text, at, totals),
-        Line::No => put(text, at, b'?'),
+        Some(Line::Shows) => put_totals(text, at, totals),
+        None => put(text, at, b'?'),
     }
 }

@@ -1,20 +1,14 @@
 use script_text::answer::put_next;
 use script_text::text::put_number;
 
-fn wide(v: u32) -> u64 {
-    v as u64
-}
-
 // The totals in their own order, which is that of showing.
 pub fn put_totals(text: &mut [u8], at: usize, totals: &[u32]) -> usize {
-    if totals.len() == 0 {
+    let Some((first, others)) = totals.split_first() else {
         return at;
-    }
-    let mut o = put_number(text, at, wide(totals[0]));
-    let mut i = 1;
-    while i < totals.len() {
-        o = put_next(text, o, wide(totals[i]));
-        i += 1;
+    };
+    let mut o = put_number(text, at, u64::from(*first));
+    for v in others {
+        o = put_next(text, o, u64::from(*v));
     }
     o
 }

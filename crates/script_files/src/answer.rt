@@ -5,16 +5,13 @@ use script_text::text::put_number;
 
 fn number_of(o: DecompressorOutcome) -> u64 {
     match o {
-        DecompressorOutcome::Accepted(_) => 0,
-        DecompressorOutcome::Refused(r) => refusal_number(r),
+        Ok(_) => 0,
+        Err(r) => refusal_number(r),
     }
 }
 
 fn length_of(o: DecompressorOutcome) -> usize {
-    match o {
-        DecompressorOutcome::Accepted(n) => n,
-        DecompressorOutcome::Refused(_) => 0,
-    }
+    o.unwrap_or(0)
 }
 
 // What a load answers: its number.

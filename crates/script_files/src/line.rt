@@ -1,21 +1,20 @@
 use crate::answer::{put_loaded, put_saved};
 use crtp::DecompressorOutcome;
-use script_text::hex::Decoded;
-use script_text::packet::{Room, last_bytes, last_room};
-use script_text::room::{FILL, front, least};
+use script_text::packet::{last_bytes, last_room};
+use script_text::room::{FILL, front};
 use script_text::text::put;
 use script_text::word::{Word, name_index};
 
 // How many bytes a file and the output of a save have at most in a script. The calls set no limit.
 pub const MOST: usize = 16384;
 
-fn name_at(line: &[u8], w: Word) -> usize {
+fn name_at(line: &[u8], w: Word) -> Option<usize> {
     name_index(b"v l", line, w)
 }
 
 // Whether a line, of which this is the first word, is one of these.
 pub fn is_name(line: &[u8], w: Word) -> bool {
-    name_at(line, w) < 2
+    name_at(line, w).is_some()
 }
 
 fn save_into(
@@ -25,7 +24,7 @@ fn save_into(
     room: usize,
     output: &mut [u8],
 ) -> DecompressorOutcome {
-    let end = least(room, output.len());
+    let end = room.min(output.len());
     crtp::save(w, h, b, &mut output[0..end])
 }
 
@@ -46,8 +45,8 @@ fn save_line(
     at: usize,
 ) -> usize {
     match last_room(line, word, MOST) {
-        Room::Is(room) => save(w, h, b, room, text, at),
-        Room::No => put(text, at, b'?'),
+        Some(room) => save(w, h, b, room, text, at),
+        None => put(text, at, b'?'),
     }
 }
 
@@ -63,8 +62,8 @@ fn load_line(
 ) -> usize {
     let mut input = [0u8; MOST];
     match last_bytes(line, word, &mut input) {
-        Decoded::Bytes(n) => put_loaded(text, at, crtp::load(w, h, b, front(&input, n))),
-        Decoded::No => put(text, at, b'?'),
+        Some(n) => put_loaded(text, at, crtp::load(w, h, b, front(&input, n))),
+        None => put(text, at, b'?'),
     }
 }
 
@@ -79,8 +78,8 @@ pub fn run_line(
     at: usize,
 ) -> usize {
     match name_at(line, word) {
-        0 => save_line(w, h, b, line, word, text, at),
-        1 => load_line(w, h, b, line, word, text, at),
+        Some(0) => save_line(w, h, b, line, word, text, at),
+        Some(1) => load_line(w, h, b, line, word, text, at),
         _ => put(text, at, b'?'),
     }
 }

@@ -11,10 +11,8 @@ pub fn put(text: &mut [u8], at: usize, b: u8) -> usize {
 
 pub fn put_all(text: &mut [u8], at: usize, s: &[u8]) -> usize {
     let mut o = at;
-    let mut i = 0;
-    while i < s.len() {
-        o = put(text, o, s[i]);
-        i += 1;
+    for b in s {
+        o = put(text, o, *b);
     }
     o
 }
@@ -32,15 +30,13 @@ fn glyph(b: u8) -> u8 {
 
 // The bytes in hex, - where there are none.
 pub fn put_hex(text: &mut [u8], at: usize, s: &[u8]) -> usize {
-    if s.len() == 0 {
+    if s.is_empty() {
         return put(text, at, b'-');
     }
     let mut o = at;
-    let mut i = 0;
-    while i < s.len() {
-        let high = put(text, o, glyph(s[i] / 16));
-        o = put(text, high, glyph(s[i]));
-        i += 1;
+    for b in s {
+        let high = put(text, o, glyph(*b / 16));
+        o = put(text, high, glyph(*b));
     }
     o
 }

@@ -12,14 +12,12 @@ fn word_end(line: &[u8], at: usize) -> usize
     requires { at ≤ length line.now }
     ensures { (at ≤ result) × (result ≤ length line.now) }
 {
-    let mut i = at;
-    while i < line.len() {
+    for i in at..line.len() {
         if line[i] == b' ' {
             return i;
         }
-        i += 1;
     }
-    i
+    line.len()
 }
 
 pub fn first_word(line: &[u8]) -> Word {
@@ -43,15 +41,7 @@ pub fn next_word(line: &[u8], w: Word) -> Word {
 
 // The bytes of a line's word; the whole line where the word is none of it.
 pub fn part<'a>(line: &'a [u8], w: Word) -> &'a [u8] {
-    let at = w.at;
-    let end = w.end;
-    if line.len() < end {
-        return line;
-    }
-    if end < at {
-        return line;
-    }
-    &line[at..end]
+    line.get(w.at..w.end).unwrap_or(line)
 }
 
 // Whether a word of a line is this one.
@@ -59,17 +49,17 @@ pub fn is_word(line: &[u8], w: Word, name: &[u8]) -> bool {
     part(line, w) == name
 }
 
-// Which of some names, with one space between them, a word is: how many stand before it, or their number where it is none.
-pub fn name_index(names: &[u8], line: &[u8], w: Word) -> usize {
+// Which of some names, with one space between them, a word is: how many stand before it.
+pub fn name_index(names: &[u8], line: &[u8], w: Word) -> Option<usize> {
     let mut count = 0;
     let mut at = 0;
     while at < names.len() {
         let end = word_end(names, at);
         if is_word(line, w, &names[at..end]) {
-            return count;
+            return Some(count);
         }
         count += 1;
         at = end + 1;
     }
-    count
+    None
 }

@@ -17,7 +17,7 @@ use Rattle.compressor_table.specs.LayoutLaws.{table_of-repeats, table_of-at}
 use Rattle.compressor_table.specs.Calls.{Gives}
 use Rattle.compressor_table.specs.CallsLaws.{gives-accepted}
 use Rattle.compressor.specs.declared.table.Table.{Table}
-use Rattle.compressor.specs.declared.answer.Outcome.TheVariants.{Accepted}
+use Rattle.std.specs.Prelude.{Ok}
 use Rattle.compressor.specs.Answer.{Result, refused, said}
 use Rattle.compressor.proofs.AnswerLaws.{delivered-refused, delivered-written}
 use Rattle.compressor.specs.Table.{context_at, with_context}
@@ -78,6 +78,6 @@ step-here l i x c a f s e q =
 -- a packet that went out, and the context that it left
 pub gives-sent : (l after : Lent) (i k n : ℕ) (c : CompressorContext) (output : List ℕ) (want : Result) → Puts l i c after
     → record { number = 0; kind = k; length = n; output = output; table = with_context (table_of l) i c } ≡ want
-    → Gives l after (Accepted k n) output want
+    → Gives l after (Ok (k, n)) output want
 gives-sent l after i k n c output want p e =
-    gives-accepted l after k n output want (ap (λ (t : Table). said (Accepted k n) t output) p.table ∙ e)
+    gives-accepted l after k n output want (ap (λ (t : Table). said (Ok (k, n)) t output) p.table ∙ e)

@@ -4,7 +4,7 @@ use Prim.Native.Nat.{ℕ, ◌≤◌}
 use mathlib.Core.Path.{◌≡◌}
 use mathlib.Core.Bool.{true, false}
 use mathlib.Core.List.{List}
-use mathlib.Core.Option.{none, some}
+use Rattle.std.specs.Prelude.{Some, None}
 use lib.ListN.{length}
 use Rattle.headers.specs.Header.{header_of}
 use Rattle.headers.specs.Compressible.{compressible}
@@ -34,16 +34,16 @@ module _ (t : Table) (p output : List ℕ) where
       way-plain e = rw (s, l, e)
 
       module _ (e : compressible p ≡ true) where
-        pub way-nowhere : place_of t (header_of p).flow ≡ none → send_plain t p output ≡ send_of t p output
+        pub way-nowhere : place_of t (header_of p).flow ≡ None → send_plain t p output ≡ send_of t p output
         unfolding send_of
         way-nowhere q = rw (s, l, e, q)
 
-        pub way_at : (i : ℕ) → place_of t (header_of p).flow ≡ some i → send_with t i p output (header_of p) ≡ send_of t p output
+        pub way_at : (i : ℕ) → place_of t (header_of p).flow ≡ Some i → send_with t i p output (header_of p) ≡ send_of t p output
         unfolding send_of send_at
         way_at i q = rw (s, l, e, q)
 
         most : length p ≤ 1500
         most = (length_allowed-true (length p) l).1
 
-        pub way_on : (i : ℕ) → place_of t (header_of p).flow ≡ some i → On t p i
+        pub way_on : (i : ℕ) → place_of t (header_of p).flow ≡ Some i → On t p i
         way_on i q = record { sound = s; compressible = e; most = most; place = place_of-found t (header_of p).flow i q }

@@ -18,7 +18,6 @@ ghost use Rattle.compressor_table.specs.Calls.{Gives};
 ghost use Rattle.send.specs.Plain.{GoesPlain};
 
 use compressor::answer::Outcome;
-use compressor::lookup::Found;
 use compressor_places::lookup::find;
 use compressor_steady::judge::is_steady;
 use compressor_steady::put::put_steady;
@@ -42,10 +41,10 @@ fn send_plain(p: &[u8], out: &mut [u8]) -> Outcome
     ensures { GoesPlain result p.now out.old out.new }
 {
     if out.len() < p.len() {
-        return Outcome::Refused(Refusal::NoRoom);
+        return Err(Refusal::NoRoom);
     }
     let length = put_all(out, 0, p);
-    Outcome::Accepted(0, length)
+    Ok((0, length))
 }
 
 // A steady packet with the header x that goes out on context i, which was read: a CR with no field but the UDP checksum.
@@ -70,7 +69,7 @@ fn send_steady(
     let past = put_steady(out, i as u8, x, c);
     let length = put_all(out, past, &p[start..]);
     store_steady(w, h, b, i, x);
-    Outcome::Accepted(3, length)
+    Ok((3, length))
 }
 
 // Any packet with the header x that goes out on context i, by all the rules.
@@ -95,14 +94,14 @@ fn send_stepped(
     let tail = &p[start..];
     let size = link_size(x, step) + tail.len();
     if out.len() < size {
-        return Outcome::Refused(Refusal::NoRoom);
+        return Err(Refusal::NoRoom);
     }
     let past = put_link(out, i as u8, p.len() as u16, x, step);
     let length = put_all(out, past, tail);
     let kind = step.kind;
     let after = step.context;
     put_context(w, h, b, i, after);
-    Outcome::Accepted(kind_number(kind), length)
+    Ok((kind_number(kind), length))
 }
 
 // A packet with the header x that goes out on context i: the short way where it is steady and has room as it is.
@@ -136,11 +135,11 @@ pub fn send(w: &mut [u32], h: &mut [u16], b: &mut [u8], p: &[u8], out: &mut [u8]
         (send_of (table_of (lent w.old h.old b.old)) p.now out.old) }
 {
     if !sound(w, h, b) {
-        return Outcome::Refused(Refusal::Unsound);
+        return Err(Refusal::Unsound);
     }
     let allowed = (1 <= p.len()) & (p.len() <= Settings::LONGEST);
     if !allowed {
-        return Outcome::Refused(Refusal::BadLength);
+        return Err(Refusal::BadLength);
     }
     if !is_compressible(p) {
         return send_plain(p, out);
@@ -149,7 +148,7 @@ pub fn send(w: &mut [u32], h: &mut [u16], b: &mut [u8], p: &[u8], out: &mut [u8]
     let header = header_with(p, list);
     let flow = header.flow;
     match find(w, h, b, flow) {
-        Found::At(i) => send_on(w, h, b, i, p, header, out),
-        Found::Nowhere => send_plain(p, out),
+        Some(i) => send_on(w, h, b, i, p, header, out),
+        None => send_plain(p, out),
     }
 }

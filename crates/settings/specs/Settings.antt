@@ -1,11 +1,9 @@
 -- Iarwennol. The settings of both ends.
 -- What an opening makes of two numbers, when settings are sound, and how long a packet may be (rules 1.3, 1.4).
 -- Used by the openings of both tables, by their soundness, and by a send and an arrival.
-use Rattle.std.specs.Prelude.{ℕ, Bool, cond, ◌&&◌, leb}
+use Rattle.std.specs.Prelude.{ℕ, Bool, cond, ◌&&◌, leb, Option, Some, None}
 use Rattle.codes.specs.Numbers.{unsound}
 use Rattle.settings.specs.declared.Settings.{Settings}
-use Rattle.settings.specs.declared.Opened.{Opened}
-use Rattle.settings.specs.declared.Opened.TheVariants.{Accepted, Refused}
 
 -- rule 1.3: repeats 0 to 14, contexts 1 to 64
 abbrev pub in_range : (n k : ℕ) → Bool
@@ -39,6 +37,6 @@ unfoldable pub open_of : (n k : ℕ) → Opening
 open_of n k = cond (in_range n k) (accepted n k) (refused unsound)
 
 -- number and values of each answer
-abbrev pub said : Opened → Opening
-said (Accepted s) = accepted s.repeats s.contexts
-said Refused = refused unsound
+abbrev pub said : Option Settings → Opening
+said (Some s) = accepted s.repeats s.contexts
+said None = refused unsound

@@ -16,12 +16,6 @@ pub struct Settings {
     pub contexts: u8,
 }
 
-#[derive(Clone, Copy)]
-pub enum Opened {
-    Accepted(Settings),
-    Refused,
-}
-
 impl Settings {
     pub const MAX_REPEATS: u32 = 14;
 
@@ -42,16 +36,16 @@ impl Settings {
     }
 
     // Any two numbers may be asked for: they are judged before they are cut to the fields' width.
-    pub fn open(n: u32, k: u32) -> Opened
+    pub fn open(n: u32, k: u32) -> Option<Settings>
         ensures { said result ≡ open_of n k }
     {
         if Settings::in_range(n, k) {
-            return Opened::Accepted(Settings {
+            return Some(Settings {
                 repeats: n as u8,
                 contexts: k as u8,
             });
         }
-        Opened::Refused
+        None
     }
 
     // Whether settings that were handed in are such as an opening gives.

@@ -2,9 +2,10 @@
 -- Proved by those of `compressor` and of `context`.
 use Prim.Native.Nat.{ℕ, ◌^◌, ◌<◌}
 use mathlib.Core.Path.{◌≡◌}
-use mathlib.Core.Bool.{true, false, cond}
+use mathlib.Core.Bool.{true}
 use mathlib.Core.List.{List}
 use lib.ListN.{length, take}
+use Rattle.std.specs.Prelude.{None, unwrap_or}
 use Rattle.codes.specs.Bytes.{AllBytes}
 use Rattle.packet.specs.declared.header.RtpHeader.{RtpHeader}
 use Rattle.packet.specs.declared.parts.Parts.{Parts}
@@ -23,11 +24,11 @@ values-asked = send_of-values
 
 -- after one without F the delta of the timestamp is the one sent, or 0
 module _ (g q : ℕ) (c : DecompressorContext) (p : Parts) (w : RtpHeader) where
-  delta-asked : (advanced_whole g q c p w).deltas.timestamp ≡ cond p.dts.sent p.dts.value 0
+  delta-asked : (advanced_whole g q c p w).deltas.timestamp ≡ unwrap_or p.dts 0
   delta-asked = whole-delta g q c p w
 
   -- and where it is 0, a packet that brings nothing of the timestamp has the one of the RTP header, over any gap
-  stands-asked : p.dts.sent ≡ false → w.rtp.timestamp < 2 ^ 32 → (h r : ℕ) (b : Parts) → b.timestamp.sent ≡ false
-      → b.dts.sent ≡ false → (advanced h r (advanced_whole g q c p w) b).rtp.timestamp ≡ w.rtp.timestamp
+  stands-asked : p.dts ≡ None → w.rtp.timestamp < 2 ^ 32 → (h r : ℕ) (b : Parts) → b.timestamp ≡ None
+      → b.dts ≡ None → (advanced h r (advanced_whole g q c p w) b).rtp.timestamp ≡ w.rtp.timestamp
   stands-asked e fits h r b whole difference =
       whole-stands g q c p w e fits h r b (record { whole = whole; difference = difference })

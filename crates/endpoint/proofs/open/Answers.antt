@@ -37,8 +37,8 @@ put_totals-requires c =
     (sized_compressor (lent c.args.cw.now c.args.ch.now c.args.cb.now) && sized_decompressor
     (lent c.args.dw.now c.args.dh.now c.args.db.now) && counted a.t.now) c.if-not-sender-receiver.false-raw)).2
 
-pub returns-then-is_accepted : goal.returns-then-is_accepted
-returns-then-is_accepted c =
+pub returns-then-is_ok : goal.returns-then-is_ok
+returns-then-is_ok c =
     let a = c.args in
     let z = parts (sized_compressor (lent c.args.cw.now c.args.ch.now c.args.cb.now))
     (sized_decompressor (lent c.args.dw.now c.args.dh.now c.args.db.now)) (counted a.t.now) (not-false
@@ -58,12 +58,12 @@ returns-then-is_accepted c =
     (opened_both (lent c.args.cw.now c.args.ch.now c.args.cb.now) _ (lent c.args.dw.now c.args.dh.now c.args.db.now) _ a.t.now a.n
     a.k c.open_compressor-first.result
     c.open_decompressor-second.result z.0 z.1 z.2 c.open_compressor-first.ensures
-    c.open_decompressor-second.ensures _ (sym (c.is_accepted.ensures ∙ ap is_accepted c.opened-outcome.ensures)
-    ∙ c.if-is_accepted.true)
+    c.open_decompressor-second.ensures _ (sym (c.is_ok.ensures.value ∙ ap is_accepted c.opened-outcome.ensures)
+    ∙ c.if-is_ok.true)
     c.put_totals.ensures.0 c.put_totals.ensures.1))
 
-pub returns-else-is_accepted : goal.returns-else-is_accepted
-returns-else-is_accepted c =
+pub returns-else-is_ok : goal.returns-else-is_ok
+returns-else-is_ok c =
     let a = c.args in
     let z = parts (sized_compressor (lent c.args.cw.now c.args.ch.now c.args.cb.now))
     (sized_decompressor (lent c.args.dw.now c.args.dh.now c.args.db.now)) (counted a.t.now) (not-false
@@ -83,5 +83,5 @@ returns-else-is_accepted c =
     (opened-none (lent c.args.cw.now c.args.ch.now c.args.cb.now) _ (lent c.args.dw.now c.args.dh.now c.args.db.now) _ a.t.now a.n
     a.k c.open_compressor-first.result
     c.open_decompressor-second.result z.0 z.1 z.2 c.open_compressor-first.ensures
-    c.open_decompressor-second.ensures (sym (c.is_accepted.ensures ∙ ap is_accepted c.opened-outcome.ensures)
-    ∙ c.if-is_accepted.false)))
+    c.open_decompressor-second.ensures (sym (c.is_ok.ensures.value ∙ ap is_accepted c.opened-outcome.ensures)
+    ∙ c.if-is_ok.false)))

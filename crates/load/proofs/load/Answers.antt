@@ -1,6 +1,7 @@
 use mathlib.Core.Path.{ap}
 use borrow.Author.Tests.{not-true, not-false}
 use Rattle.packet.specs.Refusal.{is_accepted}
+use Rattle.std.proofs.lemmas.Result.{err_from_is_err_and}
 use Rattle.planes.specs.Planes.{lent}
 use Rattle.decompressor_table.specs.Layout.{sized}
 use Rattle.load.specs.LoadLaws.{front_of-most, load-unsized, lent-refused, lent-records}
@@ -14,25 +15,26 @@ pub read_records-records-requires : goal.read_records-records-requires
 read_records-records-requires c =
     let front = c.read_front-front in
     rw front.ensures
-    (front_of-most c.args.s.now (rw front.ensures at (ap is_accepted c.in-Accepted.is)))
+    (front_of-most c.args.s.now (rw front.ensures at (ap is_accepted c.in_ok-found.was)))
 
 pub settle-requires : goal.settle-requires
 settle-requires c = not-false (sized (lent c.args.w.now c.args.h.now c.args.b.now)) c.if-not-sized.false-raw
 
-pub returns-in-Accepted : goal.returns-in-Accepted
-returns-in-Accepted c =
+pub returns : goal.returns
+returns c =
     let front = c.read_front-front in
     let q = c.read_records-records in
     let p = c.allow-end in
     lent-records (lent c.args.w.now c.args.h.now c.args.b.now) c.args.s.now
     (not-false (sized (lent c.args.w.now c.args.h.now c.args.b.now)) c.if-not-sized.false-raw)
     front.result front.ensures
-    q.result p.result _ _ c.in-Accepted.is q.ensures p.ensures c.settle.ensures
+    q.result p.result _ _ c.in_ok-found.was q.ensures p.ensures c.settle.ensures
 
-pub returns-in-Refused : goal.returns-in-Refused
-returns-in-Refused c =
+pub returns-in_err-found : goal.returns-in_err-found
+returns-in_err-found c =
     let front = c.read_front-front in
-    lent-refused (lent c.args.w.now c.args.h.now c.args.b.now) c.args.s.now
+    let p = err_from_is_err_and c.from_residual.result c.from_residual.ensures.1 in
+    rw (p.1, p.2) (lent-refused (lent c.args.w.now c.args.h.now c.args.b.now) c.args.s.now
     (not-false (sized (lent c.args.w.now c.args.h.now c.args.b.now)) c.if-not-sized.false-raw)
     front.result front.ensures _
-    c.in-Refused.is
+    c.in_err-found.was)

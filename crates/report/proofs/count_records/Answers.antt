@@ -1,4 +1,3 @@
-use Prim.Native.Nat.{◌-◌}
 use mathlib.Core.Path.{refl, ap, ◌∙◌}
 use native.Mathlib.Omega.{arith}
 use lib.ListN.{length}
@@ -9,21 +8,12 @@ use Rattle.report.specs.ToldLaws.{length-told, told-count}
 use Rattle.report.proofs.count_records.Goals as goal
 
 pub loop-i-init : goal.loop-i-init
-loop-i-init c = (c.requires, refl, omega arith, omega arith)
-
-pub records_at-n-requires : goal.records_at-n-requires
-records_at-n-requires c = (c.loop-i.invariant.0, c.loop-i-test.true)
+loop-i-init c = (refl, omega arith)
 
 pub loop-i-preserved : goal.loop-i-preserved
 loop-i-preserved c =
     let l = c.loop-i in (
-      l.invariant.0,
-      rw (told-count c.args.b.now l.i (omega arith)) (omega (
-        arith,
-        l.invariant.1,
-        c.records_at-n.ensures.0,
-      )),
-      omega arith,
+      rw (told-count c.args.b.now l.i (omega arith)) (omega (arith, l.invariant.0, c.records_at-n.ensures.0)),
       omega arith,
     )
 
@@ -31,4 +21,4 @@ pub returns : goal.returns
 returns c =
     let b = c.args.b.now in
     let l = c.loop-i in
-    (l.invariant.1 ∙ ap (length {A = State}) (states-all (told b) l.i (omega (arith, length-told b))), omega arith)
+    (l.invariant.0 ∙ ap (length {A = State}) (states-all (told b) l.i (omega (arith, length-told b))), omega arith)

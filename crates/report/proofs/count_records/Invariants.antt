@@ -1,4 +1,4 @@
-use Prim.Native.Nat.{◌≤◌, ◌-◌}
+use Prim.Native.Nat.{◌≤◌}
 use mathlib.Core.Path.{◌≡◌}
 use lib.ListN.{length}
 use Rattle.report.specs.ReportLaws.{states_before}
@@ -6,7 +6,4 @@ use Rattle.report.specs.Told.{told}
 use Rattle.report.proofs.count_records.Given as goal
 
 abbrev pub invariant-loop-i : goal.invariant-loop-i
-invariant-loop-i l = (length l.b ≡ 834) × (l.n ≡ length (states_before (told l.b) l.i)) × (l.n ≤ l.i) × (l.i ≤ 64)
-
-abbrev pub decreases-loop-i : goal.decreases-loop-i
-decreases-loop-i l = 64 - l.i
+invariant-loop-i l = (l.n ≡ length (states_before (told l.b) l.i)) × (l.n ≤ l.i)

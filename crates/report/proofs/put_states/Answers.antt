@@ -1,5 +1,3 @@
-use Prim.Native.Nat.{◌-◌}
-use mathlib.Core.Bool.{true}
 use native.Mathlib.Omega.{arith}
 use borrow.Author.Tests.{leb-true}
 use Rattle.octets.specs.PutLaws.{wrote_then, wrote_nothing, wrote-length}
@@ -11,35 +9,29 @@ use Rattle.report.specs.ToldLaws.{length-told, told_more, told-room}
 use Rattle.report.proofs.put_states.Goals as goal
 
 pub loop-i-init : goal.loop-i-init
-loop-i-init c = (c.requires.0, c.requires.1, omega arith, c.requires.2, wrote_nothing)
+loop-i-init c = wrote_nothing
 
 pub put_state-o-requires : goal.put_state-o-requires
 put_state-o-requires c =
     let b = c.args.b.now in
     let l = c.loop-i in
-    let w = l.invariant.4 in (
-      l.invariant.0,
-      c.loop-i-test.true,
-      leb-true (cell b 11 l.i) 15 (every-at (linked_at b) 64 l.i c.loop-i-test.true l.invariant.1),
-      omega (arith, w.ends, wrote-length w, l.invariant.3, told-room b l.i c.loop-i-test.true),
+    let w = l.invariant in (
+      c.requires.0,
+      omega arith,
+      leb-true (cell b 11 l.i) 15 (every-at (linked_at b) 64 l.i (omega arith) c.requires.1),
+      omega (arith, w.ends, wrote-length w, c.requires.2, told-room b l.i (omega arith)),
     )
 
 pub loop-i-preserved : goal.loop-i-preserved
 loop-i-preserved c =
-    let b = c.args.b.now in
-    let l = c.loop-i in (
-      l.invariant.0,
-      l.invariant.1,
-      omega arith,
-      l.invariant.3,
-      rw (told_more b l.i c.loop-i-test.true) (wrote_then l.invariant.4 c.put_state-o.ensures),
-    )
+    let l = c.loop-i in
+    rw (told_more c.args.b.now l.i (omega arith)) (wrote_then l.invariant c.put_state-o.ensures)
 
 pub shape_of-out : goal.shape_of-out
-shape_of-out c = wrote-length c.loop-i.invariant.4
+shape_of-out c = wrote-length c.loop-i.invariant
 
 pub returns : goal.returns
 returns c =
     let b = c.args.b.now in
     let l = c.loop-i in
-    rw (← states-all (told b) l.i (omega (arith, length-told b))) l.invariant.4
+    rw (← states-all (told b) l.i (omega (arith, length-told b))) l.invariant

@@ -18,11 +18,7 @@ pub record_count-count-requires : goal.record_count-count-requires
 record_count-count-requires c = omega (arith, c.requires.1.good.exact)
 
 pub loop-i-init : goal.loop-i-init
-loop-i-init c =
-    let a = c.args in (
-      omega arith,
-      acted-start (lent a.w.now a.h.now a.b.now) a.s.now c.requires.0,
-    )
+loop-i-init c = let a = c.args in acted-start (lent a.w.now a.h.now a.b.now) a.s.now c.requires.0
 
 pub record_asks-asks-requires : goal.record_asks-asks-requires
 record_asks-asks-requires c =
@@ -38,7 +34,7 @@ record_context-place-requires c = omega (
 pub context_at-context-requires : goal.context_at-context-requires
 context_at-context-requires c =
     let l = c.loop-i in
-    let z = fits-sizes (lent l.w l.h l.b) l.invariant.1.fit in (
+    let z = fits-sizes (lent l.w l.h l.b) l.invariant.fit in (
       z.words,
       z.shorts,
       z.bytes,
@@ -47,7 +43,6 @@ context_at-context-requires c =
         c.requires.1.most,
         c.requires.1.good.contexts l.i (omega (
           arith,
-          c.loop-i-test.true,
           c.record_count-count.ensures,
         )),
         c.record_context-place.ensures,
@@ -62,76 +57,56 @@ act_on-asked-requires c =
 pub put_context-requires : goal.put_context-requires
 put_context-requires c =
     let l = c.loop-i in (
-      l.invariant.1.fit,
+      l.invariant.fit,
       omega (
         arith,
         c.requires.1.most,
         c.requires.1.good.contexts l.i (omega (
           arith,
-          c.loop-i-test.true,
           c.record_count-count.ensures,
         )),
         c.record_context-place.ensures,
       ),
     )
 
-pub overflow_add-i : goal.overflow_add-i
-overflow_add-i c = omega (
-  arith,
-  c.loop-i-test.true,
-  c.record_count-count.ensures.1,
-)
-
-pub loop-i-smaller : goal.loop-i-smaller
-loop-i-smaller c = omega (
-  arith,
-  c.loop-i-test.true,
-)
-
 pub loop-i-preserved : goal.loop-i-preserved
 loop-i-preserved c =
     let a = c.args in
-    let l = c.loop-i in (
-      omega (
+    let l = c.loop-i in
+    acted-more (lent a.w.now a.h.now a.b.now) (lent l.w l.h l.b) _ a.s.now l.i
+    c.record_context-place.result c.record_asks-asks.result
+    c.context_at-context.result c.act_on-asked.result c.requires.0 l.invariant
+    (omega (
+      arith,
+      c.requires.1.most,
+      c.requires.1.good.contexts l.i (omega (
         arith,
-        c.loop-i-test.true,
-      ),
-      acted-more (lent a.w.now a.h.now a.b.now) (lent l.w l.h l.b) _ a.s.now l.i
-          c.record_context-place.result c.record_asks-asks.result
-          c.context_at-context.result c.act_on-asked.result c.requires.0 l.invariant.1
-          (omega (
-            arith,
-            c.requires.1.most,
-            c.requires.1.good.contexts l.i (omega (
-              arith,
-              c.loop-i-test.true,
-              c.record_count-count.ensures,
-            )),
-            c.record_context-place.ensures,
-          ))
-          c.record_asks-asks.ensures c.record_context-place.ensures
-          c.context_at-context.ensures c.act_on-asked.ensures c.put_context.ensures,
-    )
+        c.record_count-count.ensures,
+      )),
+      c.record_context-place.ensures,
+    ))
+    c.record_asks-asks.ensures c.record_context-place.ensures
+    c.context_at-context.ensures c.act_on-asked.ensures c.put_context.ensures
 
 pub shape_of-w : goal.shape_of-w
 shape_of-w c =
     let a = c.args in
     let l = c.loop-i in
-    (fits-sizes (lent l.w l.h l.b) l.invariant.1.fit).words
+    (fits-sizes (lent l.w l.h l.b) l.invariant.fit).words
     ∙ sym (fits-sizes (lent a.w.now a.h.now a.b.now) c.requires.0).words
 
 pub shape_of-h : goal.shape_of-h
 shape_of-h c =
     let a = c.args in
     let l = c.loop-i in
-    (fits-sizes (lent l.w l.h l.b) l.invariant.1.fit).shorts
+    (fits-sizes (lent l.w l.h l.b) l.invariant.fit).shorts
     ∙ sym (fits-sizes (lent a.w.now a.h.now a.b.now) c.requires.0).shorts
 
 pub shape_of-b : goal.shape_of-b
 shape_of-b c =
     let a = c.args in
     let l = c.loop-i in
-    (fits-sizes (lent l.w l.h l.b) l.invariant.1.fit).bytes
+    (fits-sizes (lent l.w l.h l.b) l.invariant.fit).bytes
     ∙ sym (fits-sizes (lent a.w.now a.h.now a.b.now) c.requires.0).bytes
 
 pub returns : goal.returns
@@ -140,4 +115,4 @@ returns c =
     let l = c.loop-i in
     request_table-made (table_of (lent a.w.now a.h.now a.b.now)) a.s.now (table_of (lent l.w l.h l.b))
     l.i
-    (omega (arith, c.record_count-count.ensures)) l.invariant.1.settings l.invariant.1.contexts
+    (omega (arith, c.record_count-count.ensures)) l.invariant.settings l.invariant.contexts

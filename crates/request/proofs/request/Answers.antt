@@ -3,6 +3,7 @@ use native.Mathlib.Omega.{arith}
 use borrow.Author.Tests.{not-true, not-false}
 use mathlib.Core.List.{[]}
 use Prim.Native.Nat.{ℕ}
+use Rattle.std.proofs.lemmas.Result.{err_from_is_err_and}
 use Rattle.packet.specs.Refusal.{verdict_number}
 use Rattle.links.specs.Cs.{request_judged}
 use Rattle.links.proofs.CsLaws.{request_judged-good}
@@ -12,7 +13,7 @@ use Rattle.compressor.proofs.TableLaws.{sound_of-true}
 use Rattle.compressor.specs.Request.{request_of}
 use Rattle.compressor.proofs.RequestLaws.{request_of-unsound, request_of-good, request_of-refused}
 use Rattle.compressor.specs.Answer.{said}
-use Rattle.compressor.specs.declared.answer.Outcome.TheVariants.{Accepted}
+use Rattle.std.specs.Prelude.{Ok}
 use Rattle.planes.specs.Planes.{lent}
 use Rattle.compressor_table.specs.Layout.{table_of}
 use Rattle.compressor_table.specs.LayoutLaws.{fits-sizes, sound-fits, table_of-contexts}
@@ -49,27 +50,28 @@ act_on_all-requires c =
             (ap (λ (k : ℕ). request_judged k c.args.s.now) (table_of-contexts (lent c.args.w.now c.args.h.now c.args.b.now)
             (sound-fits (lent c.args.w.now c.args.h.now c.args.b.now)
             (sym c.sound.ensures ∙ not-false _ c.if-not-sound.false-raw))) ∙ sym c.judge_request.ensures
-            ∙ ap verdict_number c.in-Accepted.is);
+            ∙ ap verdict_number c.in_ok-judge_request.was);
       },
     )
 
-pub returns-in-Accepted : goal.returns-in-Accepted
-returns-in-Accepted c =
+pub returns : goal.returns
+returns c =
     gives-accepted (lent c.args.w.now c.args.h.now c.args.b.now) _ 0 0 []
     (request_of ((table_of (lent c.args.w.now c.args.h.now c.args.b.now))) c.args.s.now)
-    (ap (λ (t : Table). said (Accepted 0 0) t []) c.act_on_all.ensures
+    (ap (λ (t : Table). said (Ok (0, 0)) t []) c.act_on_all.ensures
     ∙ request_of-good ((table_of (lent c.args.w.now c.args.h.now c.args.b.now))) c.args.s.now
     (sym c.sound.ensures ∙ not-false _ c.if-not-sound.false-raw) (ap (λ (k : ℕ). request_judged k
     c.args.s.now) (table_of-contexts (lent c.args.w.now c.args.h.now c.args.b.now)
     (sound-fits (lent c.args.w.now c.args.h.now c.args.b.now) (sym c.sound.ensures ∙
-    not-false _ c.if-not-sound.false-raw))) ∙ sym c.judge_request.ensures ∙ ap verdict_number c.in-Accepted.is))
+    not-false _ c.if-not-sound.false-raw))) ∙ sym c.judge_request.ensures ∙ ap verdict_number c.in_ok-judge_request.was))
 
-pub returns-in-Refused : goal.returns-in-Refused
-returns-in-Refused c =
-    gives-kept (lent c.args.w.now c.args.h.now c.args.b.now) _ [] (request_of
+pub returns-in_err-judge_request : goal.returns-in_err-judge_request
+returns-in_err-judge_request c =
+    let p = err_from_is_err_and c.from_residual.result c.from_residual.ensures.1 in
+    rw (p.1, p.2) (gives-kept (lent c.args.w.now c.args.h.now c.args.b.now) _ [] (request_of
     ((table_of (lent c.args.w.now c.args.h.now c.args.b.now))) c.args.s.now)
     (request_of-refused ((table_of (lent c.args.w.now c.args.h.now c.args.b.now))) c.args.s.now (sym c.sound.ensures ∙
-    not-false _ c.if-not-sound.false-raw) c.in-Refused.why
+    not-false _ c.if-not-sound.false-raw) c.in_err-judge_request.field-0.0
     (ap (λ (k : ℕ). request_judged k c.args.s.now) (table_of-contexts (lent c.args.w.now c.args.h.now c.args.b.now)
     (sound-fits (lent c.args.w.now c.args.h.now c.args.b.now) (sym c.sound.ensures ∙ not-false _ c.if-not-sound.false-raw))) ∙
-    sym c.judge_request.ensures ∙ ap verdict_number c.in-Refused.is))
+    sym c.judge_request.ensures ∙ ap verdict_number c.in_err-judge_request.was)))

@@ -3,4 +3,4 @@ use Rattle.save.proofs.put_front.Goals as goal
 
 pub returns : goal.returns
 returns c =
-    wrote_then c.put8-at.ensures (wrote_then c.put8-at-2.ensures c.put8.ensures)
+    wrote_then c.put-at.ensures (wrote_then c.put-at-2.ensures c.put.ensures)

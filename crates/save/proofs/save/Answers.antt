@@ -41,7 +41,7 @@ put_records-requires c =
     let x = c.sound in
     let s = sym x.ensures ∙ not-false x.result c.if-not-sound.false-raw in
     let front = c.put_front-at.ensures in
-    let size = c.put16-at.ensures in (
+    let size = c.put-at.ensures in (
       s,
       most-lent (lent c.args.w.now c.args.h.now c.args.b.now) s,
       omega (
@@ -62,4 +62,4 @@ returns c =
     let n = c.records_size-body
     in
     lent-accepted (lent c.args.w.now c.args.h.now c.args.b.now) s c.args.out.now n.result n.ensures.0 _ _ c.if-out-body.false
-    (wrote_then c.put16-at.ensures (wrote_then c.put_front-at.ensures c.put_records.ensures))
+    (wrote_then c.put-at.ensures (wrote_then c.put_front-at.ensures c.put_records.ensures))

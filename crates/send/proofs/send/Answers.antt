@@ -8,7 +8,6 @@ use Rattle.settings.specs.Settings.{length_allowed}
 use Rattle.packet.specs.declared.header.Header.{Header}
 use Rattle.compressor.proofs.CanSendLaws.{sound-most, CanSend-on}
 use Rattle.compressor.proofs.TableLaws.{sound_of-true}
-use Rattle.compressor.specs.Lookup.{place_in}
 use Rattle.compressor.specs.Send.{send_of}
 use Rattle.compressor.specs.CanSend.{send_with}
 use Rattle.planes.specs.Planes.{lent}
@@ -73,48 +72,48 @@ pub send_on-requires : goal.send_on-requires
 send_on-requires c =
     let a = c.args in
     let sounds = sym c.sound.ensures ∙ not-false _ c.if-not-sound.false-raw in
-    let k = CanSend-on ((table_of (lent c.args.w.now c.args.h.now c.args.b.now))) a.p.now c.in-At.i
+    let k = CanSend-on ((table_of (lent c.args.w.now c.args.h.now c.args.b.now))) a.p.now c.in-Some.i
     (length-table_of (lent c.args.w.now c.args.h.now c.args.b.now)
     (sound-fits (lent c.args.w.now c.args.h.now c.args.b.now) sounds))
     (AllBytes-elements a.p.now (λ j. omega (arith, c.shared_slice_known-1.given j)))
     (way_on ((table_of (lent c.args.w.now c.args.h.now c.args.b.now))) a.p.now a.out.now sounds
     (not-false (length_allowed (length a.p.now)) c.if-not-allowed.false-raw)
     (sym c.is_compressible.ensures ∙ not-false _ c.if-not-is_compressible.false-raw)
-    c.in-At.i
-    (sym (rw c.header_with-header.ensures at c.find.ensures) ∙ ap place_in c.in-At.is)) in (
+    c.in-Some.i
+    (sym (rw c.header_with-header.ensures at c.find.ensures) ∙ c.in-Some.is)) in (
       sound-fits (lent c.args.w.now c.args.h.now c.args.b.now) sounds,
       rw c.header_with-header.ensures k,
       rw c.header_with-header.ensures
-          (unlisted-lent (lent c.args.w.now c.args.h.now c.args.b.now) c.in-At.i a.p.now
+          (unlisted-lent (lent c.args.w.now c.args.h.now c.args.b.now) c.in-Some.i a.p.now
           (sound-fits (lent c.args.w.now c.args.h.now c.args.b.now) sounds) k.place sounds),
     )
 
-pub returns-in-At : goal.returns-in-At
-returns-in-At c =
+pub returns-in-Some : goal.returns-in-Some
+returns-in-Some c =
     let a = c.args in
     gives-by (lent c.args.w.now c.args.h.now c.args.b.now) _ c.send_on.result _
-    (send_with ((table_of (lent c.args.w.now c.args.h.now c.args.b.now))) c.in-At.i a.p.now a.out.now c.header_with-header.result)
+    (send_with ((table_of (lent c.args.w.now c.args.h.now c.args.b.now))) c.in-Some.i a.p.now a.out.now c.header_with-header.result)
     (send_of ((table_of (lent c.args.w.now c.args.h.now c.args.b.now))) a.p.now a.out.now)
-    (ap (λ (x : Header). send_with ((table_of (lent c.args.w.now c.args.h.now c.args.b.now))) c.in-At.i a.p.now a.out.now x)
+    (ap (λ (x : Header). send_with ((table_of (lent c.args.w.now c.args.h.now c.args.b.now))) c.in-Some.i a.p.now a.out.now x)
     c.header_with-header.ensures
     ∙ way_at ((table_of (lent c.args.w.now c.args.h.now c.args.b.now))) a.p.now a.out.now
     (sym c.sound.ensures ∙ not-false _ c.if-not-sound.false-raw) (not-false
     (length_allowed (length a.p.now)) c.if-not-allowed.false-raw) (sym c.is_compressible.ensures
     ∙ not-false _ c.if-not-is_compressible.false-raw)
-    c.in-At.i
-    (sym (rw c.header_with-header.ensures at c.find.ensures) ∙ ap
-    place_in c.in-At.is))
+    c.in-Some.i
+    (sym (rw c.header_with-header.ensures at c.find.ensures) ∙
+    c.in-Some.is))
     c.send_on.ensures
 
-pub returns-in-Nowhere : goal.returns-in-Nowhere
-returns-in-Nowhere c =
+pub returns-in-None : goal.returns-in-None
+returns-in-None c =
     let a = c.args in
-    gives-kept (lent c.args.w.now c.args.h.now c.args.b.now) c.send_plain-in-Nowhere.result _
+    gives-kept (lent c.args.w.now c.args.h.now c.args.b.now) c.send_plain-in-None.result _
     (send_of ((table_of (lent c.args.w.now c.args.h.now c.args.b.now))) a.p.now a.out.now)
-    (c.send_plain-in-Nowhere.ensures ((table_of (lent c.args.w.now c.args.h.now c.args.b.now)))
+    (c.send_plain-in-None.ensures ((table_of (lent c.args.w.now c.args.h.now c.args.b.now)))
     ∙ way-nowhere ((table_of (lent c.args.w.now c.args.h.now c.args.b.now))) a.p.now a.out.now
     (sym c.sound.ensures ∙ not-false _ c.if-not-sound.false-raw)
     (not-false (length_allowed (length a.p.now)) c.if-not-allowed.false-raw) (sym c.is_compressible.ensures ∙ not-false _
     c.if-not-is_compressible.false-raw)
     (sym (rw c.header_with-header.ensures at
-    c.find.ensures) ∙ ap place_in c.in-Nowhere.is))
+    c.find.ensures) ∙ c.in-None.is))

@@ -1,4 +1,5 @@
 use native.Mathlib.Omega.{arith}
+use Rattle.std.proofs.Common.{rules, ◌≤◌, get_or}
 use Rattle.planes.specs.Planes.{lent}
 use Rattle.compressor.specs.Lookup.{place_of}
 use Rattle.compressor_table.specs.LayoutLaws.{fits-sizes, table_of-contexts}
@@ -10,34 +11,20 @@ bounds-b-1281 c = omega (
   (fits-sizes (lent c.args.w.now c.args.h.now c.args.b.now) c.requires.0).bytes,
 )
 
-pub overflow_cast-k : goal.overflow_cast-k
-overflow_cast-k c = omega (
-  arith,
-  c.requires.1,
-  table_of-contexts (lent c.args.w.now c.args.h.now c.args.b.now)
-      c.requires.0,
-)
-
 pub lowest_of-requires : goal.lowest_of-requires
 lowest_of-requires c =
     (c.requires.0, omega (arith, c.requires.1, table_of-contexts (lent c.args.w.now c.args.h.now c.args.b.now) c.requires.0))
 
-pub lowest_empty-requires : goal.lowest_empty-requires
-lowest_empty-requires c =
-    (c.requires.0, omega (arith, c.requires.1, table_of-contexts (lent c.args.w.now c.args.h.now c.args.b.now) c.requires.0))
+pub or_else-requires : goal.or_else-requires
+or_else-requires c =
+    let k : get_or c.args.b.now 1281 0 ≤ 64 = omega (
+      arith,
+      c.requires.1,
+      table_of-contexts (lent c.args.w.now c.args.h.now c.args.b.now) c.requires.0,
+    ) in
+    search rules
 
-pub returns-in-At : goal.returns-in-At
+pub returns : goal.returns
 unfolding place_of
-returns-in-At c = rw (
-  table_of-contexts (lent c.args.w.now c.args.h.now c.args.b.now) c.requires.0,
-  ← c.lowest_of.ensures,
-  c.in-At.is,
-)
-
-pub returns-in-Nowhere : goal.returns-in-Nowhere
-unfolding place_of
-returns-in-Nowhere c = rw (
-  table_of-contexts (lent c.args.w.now c.args.h.now c.args.b.now) c.requires.0,
-  ← c.lowest_of.ensures,
-  c.in-Nowhere.is,
-) c.lowest_empty.ensures
+returns c =
+    rw (table_of-contexts (lent c.args.w.now c.args.h.now c.args.b.now) c.requires.0, ← c.lowest_of.ensures) (search rules)

@@ -1,20 +1,16 @@
-use Prim.Native.Nat.{◌-◌}
 use mathlib.Core.Path.{sym, ◌∙◌}
 use mathlib.Core.Bool.{true, false}
-use native.Mathlib.Nat.{sub-zero}
 use native.Mathlib.Omega.{arith}
+use native.Mathlib.Nat.{sub-zero}
 use borrow.Author.Tests.{eq-eqb, ne_eqb}
 use Rattle.planes.specs.Planes.{lent}
-use Rattle.compressor.proofs.LookupLaws.{lowest-end}
 use Rattle.compressor.specs.Table.{is_empty}
-use Rattle.compressor_table.specs.Layout.{table_of}
 use Rattle.compressor_table.specs.LayoutLaws.{fits-sizes}
 use Rattle.compressor_places.proofs.Found.{lowest-at, is_empty-at}
 use Rattle.compressor_places.proofs.lookup.lowest_empty.Goals as goal
 
 pub loop-i-init : goal.loop-i-init
 loop-i-init c = (
-  omega arith,
   c.requires.1,
   (fits-sizes (lent c.args.w.now c.args.h.now c.args.b.now) c.requires.0
       ).bytes,
@@ -24,23 +20,16 @@ loop-i-init c = (
 pub returns-then-b-i-eq0 : goal.returns-then-b-i-eq0
 returns-then-b-i-eq0 c =
     let l = c.loop-i in
-    sym (l.invariant.3 ∙ lowest-at is_empty (lent c.args.w.now c.args.h.now c.args.b.now) c.args.k l.i c.requires.0 (omega arith)
-    l.invariant.1 true
+    sym (l.invariant.2 ∙ lowest-at is_empty (lent c.args.w.now c.args.h.now c.args.b.now) c.args.k l.i c.requires.0 (omega arith)
+    l.invariant.0 true
     (sym (eq-eqb _ _ c.if-b-i-eq0.true) ∙ is_empty-at c.args.w.now c.args.h.now c.args.b.now l.i))
 
 pub loop-i-preserved : goal.loop-i-preserved
 loop-i-preserved c =
     let l = c.loop-i in (
-      omega arith,
+      l.invariant.0,
       l.invariant.1,
-      l.invariant.2,
-      l.invariant.3 ∙ lowest-at is_empty (lent c.args.w.now c.args.h.now c.args.b.now) c.args.k l.i c.requires.0 (omega arith)
-          l.invariant.1 false
+      l.invariant.2 ∙ lowest-at is_empty (lent c.args.w.now c.args.h.now c.args.b.now) c.args.k l.i c.requires.0 (omega arith)
+          l.invariant.0 false
           (sym (ne_eqb _ _ c.if-b-i-eq0.false) ∙ is_empty-at c.args.w.now c.args.h.now c.args.b.now l.i),
     )
-
-pub returns : goal.returns
-returns c =
-    let l = c.loop-i in
-    sym (l.invariant.3 ∙ lowest-end is_empty (table_of (lent c.args.w.now c.args.h.now c.args.b.now)).contexts l.i
-    c.args.k (omega arith))

@@ -6,8 +6,5 @@ use Rattle.compressor_table.specs.Layout.{table_of}
 use Rattle.compressor_places.proofs.lookup.lowest_of.Given as goal
 
 abbrev pub invariant-loop-i : goal.invariant-loop-i
-invariant-loop-i l = (l.i ≤ l.k) × (l.k ≤ 64) × (lowest (is_of l.f) (table_of (lent l.w l.h l.b)).contexts 0 l.k
+invariant-loop-i l = (l.k ≤ 64) × (lowest (is_of l.f) (table_of (lent l.w l.h l.b)).contexts 0 l.k
     ≡ lowest (is_of l.f) (table_of (lent l.w l.h l.b)).contexts l.i (l.k - l.i))
-
-abbrev pub decreases-loop-i : goal.decreases-loop-i
-decreases-loop-i l = l.k - l.i

@@ -1,33 +1,8 @@
-use mathlib.Core.Path.{sym, ap, ◌∙◌}
+use Rattle.std.proofs.Common.{sym, ap, ◌∙◌}
 use Rattle.packet.specs.Refusal.{verdict_number}
-use Rattle.packet.specs.RefusalLaws.{number_of-refused}
 use Rattle.context.proofs.Gap.{gap_judged-accepted}
-use Rattle.context.specs.Decompressor.{applied_whole, settled}
 use Rattle.decompress.proofs.apply.apply_whole.Goals as goal
 
-pub advance_whole-next-requires : goal.advance_whole-next-requires
-advance_whole-next-requires c =
-    let a = c.args in
-    gap_judged-accepted a.n c.gap_of-g.result
-    (sym c.judge_gap.ensures ∙ ap verdict_number c.in-Accepted.is)
-
-pub returns-in-Accepted : goal.returns-in-Accepted
-unfolding applied_whole settled
-returns-in-Accepted c =
-    rw (
-      ← c.gap_of-g.ensures,
-      ← c.judge_gap.ensures,
-      c.in-Accepted.is,
-      c.advance_whole-next.ensures,
-    )
-
-pub returns-in-Refused : goal.returns-in-Refused
-unfolding applied_whole settled
-returns-in-Refused c =
-    rw (
-      ← c.gap_of-g.ensures,
-      ← c.judge_gap.ensures,
-      c.in-Refused.is,
-      number_of-refused c.in-Refused.why,
-    )
-    c.refuse.ensures
+pub advance_whole-context-requires : goal.advance_whole-context-requires
+advance_whole-context-requires c = gap_judged-accepted c.args.n c.gap_of-gap.result
+    (sym c.judge_gap-verdict.ensures ∙ ap verdict_number c.in-Ok.is)

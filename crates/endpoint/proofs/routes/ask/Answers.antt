@@ -1,7 +1,7 @@
 use mathlib.Core.Path.{◌∙◌, ap}
 use borrow.Author.Tests.{eq-eqb, ne_eqb}
 use Rattle.crtp.specs.Face.{lent}
-use Rattle.endpoint.specs.declared.answer.Outcome.{Outcome}
+use Rattle.endpoint.specs.Answer.{Outcome}
 use Rattle.endpoint.specs.Totals.{totals_of, tallied}
 use Rattle.endpoint.specs.Outcomes.{event_of}
 use Rattle.endpoint.proofs.Routed.{closed-ask, asked}

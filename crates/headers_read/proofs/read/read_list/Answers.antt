@@ -9,17 +9,13 @@ pub loop-i-preserved : goal.loop-i-preserved
 loop-i-preserved c =
     let a = c.args in
     let l = c.loop-i in (
-      omega arith,
-      simp length-set l.invariant.1,
+      simp length-set l.invariant.0,
       rw (
         c.long_at.ensures,
-        l.invariant.2,
+        l.invariant.1,
       )
           (set-list_at a.s.now a.at l.i (omega arith)),
     )
 
 pub returns : goal.returns
-returns c = let a = c.args in
-    let l = c.loop-i in
-    let e : l.i ≡ a.n = omega arith in
-    rw (l.invariant.2, e)
+returns c = let e : c.loop-i.i ≡ c.args.n = omega arith in rw (c.loop-i.invariant.1, e)

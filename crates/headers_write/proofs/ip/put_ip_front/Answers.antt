@@ -7,8 +7,8 @@ pub returns : goal.returns
 unfolding ip_front
 returns c = (
   omega arith,
-  wrote_then c.put8-at.ensures (
-      wrote_then c.put8-at-2.ensures (
-      wrote_then c.put16-at.ensures (
-      wrote_then c.put16-at-2.ensures (rw c.fragment_word-fragment.ensures at c.put16.ensures)))),
+  wrote_then c.put-at.ensures (
+      wrote_then c.put-at-2.ensures (
+      wrote_then c.put-at-3.ensures (
+      wrote_then c.put-at-4.ensures (rw c.fragment_word-fragment.ensures at c.put.ensures)))),
 )

@@ -7,7 +7,7 @@ pub returns : goal.returns
 unfolding pseudo_bytes
 returns c = (
   omega arith,
-  wrote_then c.put32-at.ensures (
-      wrote_then c.put32-at-2.ensures (
-      wrote_then c.put16-at.ensures c.put16.ensures)),
+  wrote_then c.put-at.ensures (
+      wrote_then c.put-at-2.ensures (
+      wrote_then c.put-at-3.ensures c.put.ensures)),
 )

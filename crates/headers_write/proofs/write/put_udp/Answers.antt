@@ -7,7 +7,7 @@ pub returns : goal.returns
 unfolding udp_bytes
 returns c = (
   omega arith,
-  wrote_then c.put16-at.ensures (
-      wrote_then c.put16-at-2.ensures (
-      wrote_then c.put16-at-3.ensures c.put16.ensures)),
+  wrote_then c.put-at.ensures (
+      wrote_then c.put-at-2.ensures (
+      wrote_then c.put-at-3.ensures c.put.ensures)),
 )

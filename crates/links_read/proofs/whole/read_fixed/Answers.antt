@@ -1,13 +1,8 @@
+use borrow.Author.Rules.{rules}
+use Rattle.fields.specs.Next.{next_byte, next_word, next_long}
 use Rattle.links.specs.Whole.{fixed_of}
 use Rattle.links_read.proofs.whole.read_fixed.Goals as goal
 
 pub returns : goal.returns
-unfolding fixed_of
-returns c =
-    rw (
-      c.next_long-ssrc.ensures,
-      c.next_long-timestamp.ensures,
-      c.next_word-sequence.ensures,
-      c.next_byte-second.ensures,
-      c.next_version-first.ensures,
-    )
+unfolding fixed_of next_byte next_word next_long
+returns c = search rules

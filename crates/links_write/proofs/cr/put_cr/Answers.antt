@@ -6,6 +6,6 @@ pub returns : goal.returns
 unfolding cr_bytes
 returns c =
     wrote_then c.put_flags-at.ensures.1 (
-    wrote_then c.put16_if-at.ensures.1 (
+    wrote_then c.put_if-at.ensures.1 (
     wrote_then c.put_second-at.ensures.1 (
     wrote_then c.put_deltas-at.ensures.1 c.put_list.ensures.1)))

@@ -33,8 +33,8 @@ returns-then-not-kept_form c =
       not-true c.kept_form.result c.if-not-kept_form.true-raw,
     )
 
-pub read_header-header-requires : goal.read_header-header-requires
-read_header-header-requires c =
+pub read_header-requires : goal.read_header-requires
+read_header-requires c =
     let a = c.args in
     let e = sym c.kept_form.ensures ∙ not-false c.kept_form.result c.if-not-kept_form.false-raw in
     omega (
@@ -54,5 +54,5 @@ returns c =
       ← form,
       not-false c.kept_form.result c.if-not-kept_form.false-raw,
       ← part,
-      c.read_header-header.ensures,
+      c.read_header.ensures,
     )

@@ -1,4 +1,3 @@
-use Prim.Native.Nat.{◌≤◌, ◌-◌}
 use mathlib.Core.Path.{◌≡◌}
 use lib.ListN.{length}
 use Rattle.planes.specs.Planes.{lent}
@@ -8,8 +7,5 @@ use Rattle.load.proofs.store.store.Given as goal
 
 abbrev pub invariant-loop-i : goal.invariant-loop-i
 invariant-loop-i l =
-    (length l.contexts ≡ 64) × (l.i ≤ 64) × Storing (table_of (lent l.initial.w l.initial.h l.initial.b)).settings l.contexts l.i
+    (length l.contexts ≡ 64) × Storing (table_of (lent l.initial.w l.initial.h l.initial.b)).settings l.contexts l.i
     (lent l.w l.h l.b)
-
-abbrev pub decreases-loop-i : goal.decreases-loop-i
-decreases-loop-i l = 64 - l.i

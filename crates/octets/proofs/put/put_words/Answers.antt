@@ -1,41 +1,32 @@
-use Prim.Native.Nat.{◌-◌, ◌+◌}
-use mathlib.Core.Path.{◌≡◌, ◌∙◌}
+use Prim.Native.Nat.{ℕ, ◌≤◌, ◌*◌}
+use mathlib.Core.Path.{◌≡◌}
+use mathlib.Core.List.{List}
 use native.Mathlib.Omega.{arith}
 use lib.ListN.{length, take}
-use lib.Seq.{length-take-le}
+use Rattle.std.proofs.lemmas.List.{length-take-le, take_all}
 use Rattle.octets.specs.Put.{words}
-use Rattle.octets.specs.PutLaws.{sets_then, words_take, length-words}
+use Rattle.octets.specs.PutLaws.{wrote_then, words_take, length-words}
 use Rattle.octets.proofs.put.put_words.Goals as goal
 
-pub loop-i-preserved : goal.loop-i-preserved
-loop-i-preserved c =
-    let a = c.args in
-    let l = c.loop-i in
-    let p = c.put32-past in
-    let k = length-take-le l.i a.list (omega arith) in
-    let n : l.past ≡ a.at + length (words (take l.i a.list)) = omega (arith, length-words (take l.i a.list)) in (
-      l.invariant.0,
-      omega arith,
-      omega arith,
-      p.auto.out ∙ l.invariant.3,
-      p.ensures.holds ∙ rw (
-        l.invariant.4,
-        words_take a.list l.i (omega arith),
-      )
-          (sets_then (words (take l.i a.list)) _ _ _ _ n),
-    )
+length-words_take : (i : ℕ) (l : List ℕ) → i ≤ length l → length (words (take i l)) ≡ 4 * i
+length-words_take i l h = omega (arith, length-words (take i l), length-take-le i l h)
 
-pub shape_of-out : goal.shape_of-out
-shape_of-out c = c.loop-i.invariant.3
+pub put-past-requires : goal.put-past-requires
+put-past-requires c =
+    let a = c.args in
+    let i = c.loop-word.word-index in
+    let l = length-take-le a.n a.list (omega arith) in
+    omega (arith, c.loop-word.invariant.ends, length-words_take i (take a.n a.list) (omega arith))
+
+pub loop-word-preserved : goal.loop-word-preserved
+loop-word-preserved c =
+    let a = c.args in
+    let l = length-take-le a.n a.list (omega arith) in
+    rw (words_take (take a.n a.list) c.loop-word.word-index (omega arith)) (wrote_then c.loop-word.invariant c.put-past.ensures)
 
 pub returns : goal.returns
 returns c =
-    let l = c.loop-i in
-    let e : l.i ≡ c.args.n = omega arith in (
-      omega arith,
-      record {
-        ends = let a = c.args in omega
-            (arith, length-words (take a.n a.list), length-take-le a.n a.list (omega arith));
-        holds = rw (← e) l.invariant.4;
-      },
-    )
+    let a = c.args in
+    let l = length-take-le a.n a.list (omega arith) in
+    let w = rw (take_all c.loop-word.word-index (take a.n a.list) (omega arith)) at c.loop-word.invariant in
+    (omega (arith, w.ends, length-words_take a.n a.list (omega arith)), w)

@@ -14,10 +14,10 @@ returns c =
     let k = checksum_read a.c in
     let w = whole_of s h.place h.flags k in
     let read = c.read_cu_whole-read in
-    let carried = c.reads_checksum-carried in
-    arrives-whole a.n a.c s h read.result (rw carried.ensures at read.ensures) c.apply_whole-applied.result
-    c.apply_whole-applied.ensures
+    let carried = c.reads_checksum in
+    arrives-whole a.n a.c s h read.result (rw carried.ensures at read.ensures) c.apply_whole.result
+    c.apply_whole.ensures
     (rw (read.ensures, carried.ensures) (whole-narrow a.n h.flags.low a.c w.parts p.1 w.parts.checksum
     p.0.link p.0.sound (whole_of-sound s h.place h.flags k) w.header (whole_of-header s h.place h.flags k)
-    (effect_of c.apply_whole-applied.result) (rw (read.ensures, carried.ensures) at c.apply_whole-applied.ensures)))
+    (effect_of c.apply_whole.result) (rw (read.ensures, carried.ensures) at c.apply_whole.ensures)))
     (rw (read.ensures, carried.ensures) (whole_of-within s h.place h.flags k p.0.within))

@@ -7,6 +7,6 @@ pub returns : goal.returns
 returns c =
     let a = c.args in
     let p = c.requires in
-    λ s within. arrives-parts a.n a.c s a.q a.x c.apply-applied.result c.apply-applied.ensures
+    λ s within. arrives-parts a.n a.c s a.q a.x c.apply.result c.apply.ensures
     (applied-narrow a.n a.q a.c a.x.parts p.2 a.x.parts.checksum p.1 p.3 p.4
-    (effect_of c.apply-applied.result) c.apply-applied.ensures) within
+    (effect_of c.apply.result) c.apply.ensures) within

@@ -75,11 +75,11 @@ returns c =
       part-rest a.s.now (fh_of a.s.now).start,
     ) at
     c.put_packet.ensures in
-    gives-full (lent c.args.w.now c.args.h.now c.args.b.now) _ c.read_fh-full.result.context (length a.s.now) c.fill-context.result
+    gives-full (lent c.args.w.now c.args.h.now c.args.b.now) _ c.read_fh-full.result.context (length a.s.now) c.fill.result
     _
     (accept_full ((table_of (lent c.args.w.now c.args.h.now c.args.b.now))) a.s.now a.out.now) c.put_context.ensures
     (rw (
-      c.fill-context.ensures,
+      c.fill.ensures,
       c.read_fh-full.ensures,
     )
     (said-accepted ((table_of (lent c.args.w.now c.args.h.now c.args.b.now)))

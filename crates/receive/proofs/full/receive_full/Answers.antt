@@ -1,6 +1,7 @@
 use Prim.Native.Nat.{ℕ}
 use mathlib.Core.Path.{◌∙◌, sym, ap}
 use native.Mathlib.Omega.{arith}
+use Rattle.std.proofs.lemmas.Result.{err_from_is_err_and}
 use Rattle.planes.specs.Planes.{lent}
 use Rattle.decompressor_table.specs.Layout.{table_of}
 use Rattle.packet.specs.Refusal.{verdict_number}
@@ -24,26 +25,27 @@ accept_full-requires c =
       c.requires.0,
       c.requires.1,
       (ap (λ (k : ℕ). fh_judged k a.s.now) (table_of-contexts (lent c.args.w.now c.args.h.now c.args.b.now) c.requires.0)
-          ∙ sym c.judge_fh.ensures) ∙ ap verdict_number c.in-Accepted.is,
+          ∙ sym c.judge_fh.ensures) ∙ ap verdict_number c.in_ok-judge_fh.was,
       c.requires.2,
     )
 
-pub returns-in-Accepted : goal.returns-in-Accepted
-returns-in-Accepted c =
+pub returns : goal.returns
+returns c =
     let a = c.args in
     gives-by (lent c.args.w.now c.args.h.now c.args.b.now) _ c.accept_full.result _ (accept_full
     ((table_of (lent c.args.w.now c.args.h.now c.args.b.now))) a.s.now a.out.now)
     (receive_full ((table_of (lent c.args.w.now c.args.h.now c.args.b.now))) a.s.now a.out.now)
     (full-good ((table_of (lent c.args.w.now c.args.h.now c.args.b.now))) a.s.now a.out.now
     ((ap (λ (k : ℕ). fh_judged k a.s.now) (table_of-contexts (lent c.args.w.now c.args.h.now c.args.b.now) c.requires.0)
-    ∙ sym c.judge_fh.ensures) ∙ ap verdict_number c.in-Accepted.is))
+    ∙ sym c.judge_fh.ensures) ∙ ap verdict_number c.in_ok-judge_fh.was))
     c.accept_full.ensures
 
-pub returns-in-Refused : goal.returns-in-Refused
-returns-in-Refused c =
+pub returns-in_err-judge_fh : goal.returns-in_err-judge_fh
+returns-in_err-judge_fh c =
     let a = c.args in
-    gives-kept (lent c.args.w.now c.args.h.now c.args.b.now) _ a.out.now
+    let p = err_from_is_err_and c.from_residual.result c.from_residual.ensures.1 in
+    rw (p.1, p.2) (gives-kept (lent c.args.w.now c.args.h.now c.args.b.now) _ a.out.now
     (receive_full ((table_of (lent c.args.w.now c.args.h.now c.args.b.now))) a.s.now a.out.now)
-    (full-refused ((table_of (lent c.args.w.now c.args.h.now c.args.b.now))) a.s.now a.out.now c.in-Refused.why
+    (full-refused ((table_of (lent c.args.w.now c.args.h.now c.args.b.now))) a.s.now a.out.now _
     ((ap (λ (k : ℕ). fh_judged k a.s.now) (table_of-contexts (lent c.args.w.now c.args.h.now c.args.b.now) c.requires.0)
-    ∙ sym c.judge_fh.ensures) ∙ ap verdict_number c.in-Refused.is))
+    ∙ sym c.judge_fh.ensures) ∙ ap verdict_number c.in_err-judge_fh.was)))

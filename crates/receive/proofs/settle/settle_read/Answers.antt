@@ -2,11 +2,11 @@ use Rattle.receive.specs.TakenLaws.{takes-refused}
 use Rattle.context.proofs.Arrays.{part-rest}
 use Rattle.receive.proofs.settle.settle_read.Goals as goal
 
-pub returns-in-Accepted : goal.returns-in-Accepted
-returns-in-Accepted c = let a = c.args in
-    λ n. rw c.in-Accepted.is
+pub returns-in-Ok : goal.returns-in-Ok
+returns-in-Ok c = let a = c.args in
+    λ n. rw c.in-Ok.is
     (rw (part-rest a.s.now a.p.cursor.at) at (c.settle.ensures n))
 
-pub returns-in-Refused : goal.returns-in-Refused
-returns-in-Refused c = let a = c.args in
-    λ n. rw c.in-Refused.is (takes-refused n a.before a.out.now _)
+pub returns-in-Err : goal.returns-in-Err
+returns-in-Err c = let a = c.args in
+    λ n. rw c.in-Err.is (takes-refused n a.before a.out.now _)

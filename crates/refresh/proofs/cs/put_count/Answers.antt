@@ -5,5 +5,5 @@ use Rattle.refresh.proofs.cs.put_count.Goals as goal
 pub returns : goal.returns
 returns c = (
   omega arith,
-  wrote_then c.put8-at.ensures c.put8.ensures,
+  wrote_then c.put-at.ensures c.put.ensures,
 )

@@ -6,5 +6,5 @@ pub returns : goal.returns
 returns c = (
   omega arith,
   rw c.pack_record-flags.ensures at
-      (wrote_then c.put8-at.ensures (wrote_then c.put8-at-2.ensures c.put8.ensures)),
+      (wrote_then c.put-at.ensures (wrote_then c.put-at-2.ensures c.put.ensures)),
 )

@@ -9,8 +9,8 @@ use native.Mathlib.Omega.{arith}
 use borrow.Author.Rules.{rules}
 use Rattle.save.proofs.record.put_kept.Goals as goal
 
-pub put8-requires : goal.put8-requires
-put8-requires c = let a = c.args in
+pub put-requires : goal.put-requires
+put-requires c = let a = c.args in
     omega (
       arith,
       ap (length {A = ℕ}) (header_part-unfilled a.c (not-true a.c.filled c.if-not-c.true)),
@@ -20,15 +20,15 @@ put8-requires c = let a = c.args in
 pub returns-then-not-c : goal.returns-then-not-c
 returns-then-not-c c =
     let a = c.args in
-    rw (header_part-unfilled a.c (not-true a.c.filled c.if-not-c.true)) c.put8.ensures
+    rw (header_part-unfilled a.c (not-true a.c.filled c.if-not-c.true)) c.put.ensures
 
 pub overflow_cast-size : goal.overflow_cast-size
 unfolding rebuilt
 overflow_cast-size c =
     omega (arith, rw c.rebuild-header.ensures at c.header_size-size.ensures, c.requires.0.count)
 
-pub put8-at-requires : goal.put8-at-requires
-put8-at-requires c =
+pub put-at-requires : goal.put-at-requires
+put-at-requires c =
     let a = c.args in
     omega (
       arith,
@@ -42,7 +42,7 @@ put_header-requires c =
     let list-size : length c.args.c.csrc.words ≡ 15 = search rules in
     let a = c.args in
     let p = c.requires in
-    let w = c.put8-at.ensures in
+    let w = c.put-at.ensures in
     rw c.rebuild-header.ensures (
       record { flags = p.0.flags; payload = p.0.payload; count = p.0.count },
       omega (
@@ -59,4 +59,4 @@ returns c =
     let a = c.args in
     let e = c.rebuild-header.ensures in
     rw (header_part-filled a.c (not-false a.c.filled c.if-not-c.false))
-    (wrote_then (rw (c.header_size-size.ensures, e) at c.put8-at.ensures) (rw e at c.put_header.ensures.1))
+    (wrote_then (rw (c.header_size-size.ensures, e) at c.put-at.ensures) (rw e at c.put_header.ensures.1))

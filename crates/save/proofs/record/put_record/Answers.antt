@@ -6,8 +6,8 @@ use Prim.Native.Nat.{ℕ}
 use native.Mathlib.Omega.{arith}
 use Rattle.save.proofs.record.put_record.Goals as goal
 
-pub put8-requires : goal.put8-requires
-put8-requires c =
+pub put-requires : goal.put-requires
+put-requires c =
     omega (arith, ap (length {A = ℕ}) (record_bytes-empty c.args.c c.in-Empty.is), c.requires.1)
 
 pub put_used-requires : goal.put_used-requires
@@ -22,7 +22,7 @@ put_used-requires-in-Broken c = let a = c.args in
 
 pub returns-in-Empty : goal.returns-in-Empty
 returns-in-Empty c =
-    rw (record_bytes-empty c.args.c c.in-Empty.is) c.put8.ensures
+    rw (record_bytes-empty c.args.c c.in-Empty.is) c.put.ensures
 
 pub returns-in-Live : goal.returns-in-Live
 returns-in-Live c =

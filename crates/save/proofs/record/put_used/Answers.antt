@@ -3,8 +3,8 @@ use Rattle.save.proofs.record.put_used.Goals as goal
 
 pub returns : goal.returns
 returns c =
-    wrote_then c.put8-at.ensures (
-    wrote_then c.put8-at-2.ensures (
-    wrote_then c.put8-at-3.ensures (
-    wrote_then c.put16-at.ensures (
-    wrote_then c.put32-at.ensures c.put_kept.ensures))))
+    wrote_then c.put-at.ensures (
+    wrote_then c.put-at-2.ensures (
+    wrote_then c.put-at-3.ensures (
+    wrote_then c.put-at-4.ensures (
+    wrote_then c.put-at-5.ensures c.put_kept.ensures))))

@@ -1,7 +1,0 @@
-use Rattle.codes.specs.Difference.{difference}
-use Rattle.std.proofs.Common.{rules}
-use Rattle.codes.proofs.difference.difference32.Goals as goal
-
-pub returns : goal.returns
-unfolding difference
-returns c = search rules

@@ -1,4 +1,0 @@
-use Rattle.links_write.proofs.delta.delta32_size.Goals as goal
-
-pub returns-then-f : goal.returns-then-f
-returns-then-f c = rw (c.if-f.true, ← c.code32-code.ensures) c.code_size.ensures
