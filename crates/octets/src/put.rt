@@ -50,9 +50,10 @@ pub fn put_all(out: &mut [u8], at: usize, s: &[u8]) -> usize
     requires { at + length s.now ≤ length out.old }
     ensures { Wrote out.old out.new at result s.now }
 {
-    let past = at + s.len();
-    out[at..past].copy_from_slice(s);
-    past
+    for (i, v) in s.iter().enumerate() {
+        out[at + i] = *v;
+    }
+    at + s.len()
 }
 
 fn put_bytes(out: &mut [u8], at: usize, code: Code) -> usize

@@ -2,7 +2,6 @@ ghost use Rattle.std.specs.Prelude.{List, ℕ, [], ◌∷◌, ◌≤◌, ◌+◌
 ghost use Rattle.codes.specs.Bytes.{big_endian};
 ghost use Rattle.octets.specs.Put.{Wrote};
 
-use crate::put::put_all;
 use codes::field::Field;
 
 // A field as it is written.
@@ -29,7 +28,10 @@ impl Written for u16 {
     ghost bytes = { big_endian 2 };
 
     fn put(self, out: &mut [u8], at: usize) -> usize {
-        put_all(out, at, &self.to_be_bytes())
+        let [high, low] = self.to_be_bytes();
+        out[at] = high;
+        out[at + 1] = low;
+        at + 2
     }
 }
 
@@ -37,6 +39,11 @@ impl Written for u32 {
     ghost bytes = { big_endian 4 };
 
     fn put(self, out: &mut [u8], at: usize) -> usize {
-        put_all(out, at, &self.to_be_bytes())
+        let [first, second, third, fourth] = self.to_be_bytes();
+        out[at] = first;
+        out[at + 1] = second;
+        out[at + 2] = third;
+        out[at + 3] = fourth;
+        at + 4
     }
 }

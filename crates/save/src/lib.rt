@@ -6,13 +6,13 @@
 
 pub mod record;
 
-ghost use Rattle.std.specs.Prelude.{◌≡◌, true, ◌≤◌, ◌+◌, length, take};
+ghost use Rattle.std.specs.Prelude.{◌≡◌, true, ◌<◌, ◌≤◌, ◌+◌, length, take};
 ghost use Rattle.octets.specs.Put.{Wrote};
 ghost use Rattle.planes.specs.Planes.{lent};
 ghost use Rattle.decompressor.specs.Answer.{said};
 ghost use Rattle.decompressor.specs.Table.{sound_of};
-ghost use Rattle.decompressor_table.specs.Layout.{table_of};
-ghost use Rattle.saves.specs.Saves.{front_bytes, records_bytes, save_of};
+ghost use Rattle.decompressor_table.specs.Layout.{context_in, table_of};
+ghost use Rattle.saves.specs.Saves.{front_bytes, record_bytes, records_bytes, save_of};
 
 use crate::record::{put_record, record_size};
 use decompressor::answer::Outcome;
@@ -21,7 +21,7 @@ use decompressor_table::read::context_at;
 use decompressor_walk::sound::sound;
 use octets::put::put;
 use packet::refusal::Refusal;
-use saves::layout::VERSION;
+use saves::layout::{EMPTY, VERSION};
 use settings::Settings;
 
 // How many bytes the records of the first n contexts have.
@@ -48,6 +48,18 @@ fn put_front(out: &mut [u8], at: usize, s: Settings) -> usize
     put(out, at, s.contexts)
 }
 
+// The record of the context at place i. Where it is empty its status tells all: nothing else of it is read.
+fn put_record_at(w: &[u32], h: &[u16], b: &[u8], i: usize, out: &mut [u8], at: usize) -> usize
+    requires { (sound_of (table_of (lent w.now h.now b.now)) ≡ true) × (i < 64)
+        × (at + length (record_bytes (context_in w.now h.now b.now i)) ≤ length out.old) }
+    ensures { Wrote out.old out.new at result (record_bytes (context_in w.now h.now b.now i)) }
+{
+    if b[Layout::STATUS + i] == EMPTY {
+        return put(out, at, EMPTY);
+    }
+    put_record(out, at, context_at(w, h, b, i))
+}
+
 // The records of the first n contexts.
 fn put_records(w: &[u32], h: &[u16], b: &[u8], n: usize, out: &mut [u8], at: usize) -> usize
     requires { (sound_of (table_of (lent w.now h.now b.now)) ≡ true) × (n ≤ 64)
@@ -57,7 +69,7 @@ fn put_records(w: &[u32], h: &[u16], b: &[u8], n: usize, out: &mut [u8], at: usi
 {
     let mut past = at;
     for i in 0..n {
-        past = put_record(out, past, context_at(w, h, b, i));
+        past = put_record_at(w, h, b, i, out, past);
     }
     past
 }

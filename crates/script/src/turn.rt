@@ -13,12 +13,8 @@ fn line_end(buf: &[u8], at: usize, filled: usize) -> usize
     requires { (at ≤ filled) × (filled ≤ length buf.now) }
     ensures { (at ≤ result) × (result ≤ filled) }
 {
-    for i in at..filled {
-        if buf[i] == b'\n' {
-            return i;
-        }
-    }
-    filled
+    let line = &buf[at..filled];
+    at + line.iter().position(|b| *b == b'\n').unwrap_or(line.len())
 }
 
 // Moves what begins at start to the front. A line longer than any call keeps its first bytes only, so that there is always
@@ -28,7 +24,9 @@ fn keep(buf: &mut [u8], start: usize, end: usize) -> usize
     ensures { result ≤ length buf.new }
 {
     let n = (end - start).min(40000);
-    buf.copy_within(start..start + n, 0);
+    if 0 < start {
+        buf.copy_within(start..start + n, 0);
+    }
     n
 }
 

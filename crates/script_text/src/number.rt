@@ -16,11 +16,14 @@ fn read(word: &[u8]) -> Option<u32> {
     if word.is_empty() {
         return None;
     }
-    let mut v = 0u32;
+    let mut v = 0u64;
     for b in word {
-        v = v.checked_mul(10)?.checked_add(digit(*b)? as u32)?;
+        v = v * 10 + u64::from(digit(*b)?);
+        if u64::from(u32::MAX) < v {
+            return None;
+        }
     }
-    Some(v)
+    Some(v as u32)
 }
 
 pub fn number_at(line: &[u8], w: Word) -> Option<u32> {
