@@ -59,7 +59,12 @@ pub fn request(w: &mut [u32], h: &mut [u16], b: &mut [u8], s: &[u8]) -> Outcome
     if !sound(w, h, b) {
         return Err(Refusal::Unsound);
     }
-    judge_request(b[Layout::CONTEXTS], s)?;
-    act_on_all(w, h, b, s);
-    Ok((0, 0))
+    // No `?`: what a refused request answers stands here, for an edit to get wrong.
+    match judge_request(b[Layout::CONTEXTS], s) {
+        Ok(()) => {
+            act_on_all(w, h, b, s);
+            Ok((0, 0))
+        }
+        Err(why) => Err(why),
+    }
 }

@@ -3,7 +3,6 @@ use native.Mathlib.Omega.{arith}
 use borrow.Author.Tests.{not-true, not-false}
 use mathlib.Core.List.{[]}
 use Prim.Native.Nat.{ℕ}
-use Rattle.std.proofs.lemmas.Result.{err_from_is_err_and}
 use Rattle.packet.specs.Refusal.{verdict_number}
 use Rattle.links.specs.Cs.{request_judged}
 use Rattle.links.proofs.CsLaws.{request_judged-good}
@@ -50,12 +49,12 @@ act_on_all-requires c =
             (ap (λ (k : ℕ). request_judged k c.args.s.now) (table_of-contexts (lent c.args.w.now c.args.h.now c.args.b.now)
             (sound-fits (lent c.args.w.now c.args.h.now c.args.b.now)
             (sym c.sound.ensures ∙ not-false _ c.if-not-sound.false-raw))) ∙ sym c.judge_request.ensures
-            ∙ ap verdict_number c.in_ok-judge_request.was);
+            ∙ ap verdict_number c.in-Ok.is);
       },
     )
 
-pub returns : goal.returns
-returns c =
+pub returns-in-Ok : goal.returns-in-Ok
+returns-in-Ok c =
     gives-accepted (lent c.args.w.now c.args.h.now c.args.b.now) _ 0 0 []
     (request_of ((table_of (lent c.args.w.now c.args.h.now c.args.b.now))) c.args.s.now)
     (ap (λ (t : Table). said (Ok (0, 0)) t []) c.act_on_all.ensures
@@ -63,15 +62,14 @@ returns c =
     (sym c.sound.ensures ∙ not-false _ c.if-not-sound.false-raw) (ap (λ (k : ℕ). request_judged k
     c.args.s.now) (table_of-contexts (lent c.args.w.now c.args.h.now c.args.b.now)
     (sound-fits (lent c.args.w.now c.args.h.now c.args.b.now) (sym c.sound.ensures ∙
-    not-false _ c.if-not-sound.false-raw))) ∙ sym c.judge_request.ensures ∙ ap verdict_number c.in_ok-judge_request.was))
+    not-false _ c.if-not-sound.false-raw))) ∙ sym c.judge_request.ensures ∙ ap verdict_number c.in-Ok.is))
 
-pub returns-in_err-judge_request : goal.returns-in_err-judge_request
-returns-in_err-judge_request c =
-    let p = err_from_is_err_and c.from_residual.result c.from_residual.ensures.1 in
-    rw (p.1, p.2) (gives-kept (lent c.args.w.now c.args.h.now c.args.b.now) _ [] (request_of
+pub returns-in-Err : goal.returns-in-Err
+returns-in-Err c =
+    gives-kept (lent c.args.w.now c.args.h.now c.args.b.now) _ [] (request_of
     ((table_of (lent c.args.w.now c.args.h.now c.args.b.now))) c.args.s.now)
     (request_of-refused ((table_of (lent c.args.w.now c.args.h.now c.args.b.now))) c.args.s.now (sym c.sound.ensures ∙
-    not-false _ c.if-not-sound.false-raw) c.in_err-judge_request.field-0.0
+    not-false _ c.if-not-sound.false-raw) c.in-Err.why
     (ap (λ (k : ℕ). request_judged k c.args.s.now) (table_of-contexts (lent c.args.w.now c.args.h.now c.args.b.now)
     (sound-fits (lent c.args.w.now c.args.h.now c.args.b.now) (sym c.sound.ensures ∙ not-false _ c.if-not-sound.false-raw))) ∙
-    sym c.judge_request.ensures ∙ ap verdict_number c.in_err-judge_request.was)))
+    sym c.judge_request.ensures ∙ ap verdict_number c.in-Err.is))
